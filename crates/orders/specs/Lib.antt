@@ -1,0 +1,12 @@
+pub mod Digits
+pub mod Pigeons
+pub mod Packing
+pub mod Orders
+pub mod Group
+pub mod Dimension
+pub mod Refusals
+pub mod Entries
+pub mod Chains
+pub mod Tables
+pub mod Factors
+pub mod Laws

@@ -1,0 +1,7 @@
+-- The number of each refusal. Assumes nothing.
+use Prim.Native.Nat.{ℕ}
+use Rattle.orders.specs.declared.refusal.Refusal.{Refusal}
+use Rattle.orders.specs.declared.refusal.Refusal.the-variants.{BadRow}
+
+abbrev pub number : Refusal → ℕ
+number BadRow = 3
