@@ -10,3 +10,5 @@ pub mod Chains
 pub mod Tables
 pub mod Factors
 pub mod Laws
+pub mod Named
+pub mod Examples

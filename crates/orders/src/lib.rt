@@ -9,6 +9,8 @@ mod refusal;
 pub use chain::Chain;
 pub use factoring::factors;
 pub use factoring::product;
+pub use laws::examples_stand;
+pub use laws::factoring_stands;
 pub use laws::laws_stand;
 pub use moves::Rotation;
 pub use moves::RotationChain;

@@ -7,8 +7,7 @@ ghost use Rattle.std.specs.Options.{Cases as BySome};
 ghost use Rattle.std.specs.Results.{Cases};
 ghost use Rattle.std.specs.Orderings.{When};
 ghost use Rattle.orders.specs.Digits.{digit};
-ghost use Rattle.orders.specs.Entries.{Made, Writes, Refused};
-ghost use Rattle.orders.specs.Orders.{place};
+ghost use Rattle.orders.specs.Entries.{Made, Writes, Refused, row-of};
 use super::Order;
 use super::build::digit_of;
 use super::build::packed;
@@ -45,14 +44,14 @@ fn digits_of(row: [u8; 16], len: u8) -> Option<[u8; 16]>
 }
 
 impl Order {
-    // The number that holds this order.
+    // The order as one number: four bits a place.
     pub fn code(self) -> u64
         ensures { λ r. ⌜ r ≡ self .code ⌝ }
     {
         self.code
     }
 
-    // The order that a number holds, if it holds one.
+    // The order with this code, if there is one.
     pub fn from_code(code: u64) -> Option<Order>
         ensures { λ r. ⌜ Made code r ⌝ }
     {
@@ -83,7 +82,7 @@ impl Order {
 
     // The place of each piece, in the pieces' order.
     pub fn row(self) -> [u8; 16]
-        ensures { λ r. ⌜ ((j : ℕ) → j < 16 → getD r j 0 ≡ place self (suc j)) ⌝ }
+        ensures { λ r. ⌜ r ≡ row-of self ⌝ }
     {
         let mut row = [0; 16];
         for j in 0..16u8 {

@@ -1,7 +1,7 @@
-use mathlib.Core.Path.{_∙_, refl}
+use mathlib.Core.Path.{_∙_, refl, sym}
 use native.Mathlib.Omega.{arith}
 use lib.ListN.{getD}
-use Rattle.orders.proofs.Written.{writes, within, twice}
+use Rattle.orders.proofs.Written.{writes, code-is}
 use Rattle.orders.proofs.order.Order.from_row.Needs as need
 
 pub returns-in-Some-from-code : need.returns-in-Some-from-code
@@ -13,8 +13,8 @@ returns-in-Some-from-code c =
 pub returns-in-None : need.returns-in-None
 returns-in-None c =
     let ds = c .in-Some .ensures tt in
-    let w = twice (c .args .row) (c .args .len) (λ j. getD (c .in-Some .digits) j 0) (omega arith) (ds .0) (ds .1) (c .packed .result) (c .packed .ensures) (c .in-None .ensures tt) in
     record {
       why = refl;
-      none = λ o written. omega (arith, w .2, written .once (w .0) (w .1) (omega (arith, w .2, w .3)) (w .3) (w .4));
+      none = λ o written. c .in-None .ensures tt o
+          (code-is (c .args .row) (c .args .len) (λ j. getD (c .in-Some .digits) j 0) (omega arith) (ds .0) (ds .1) o written ∙ sym (c .packed .ensures));
     }
