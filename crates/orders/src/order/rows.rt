@@ -44,13 +44,6 @@ fn digits_of(row: [u8; 16], len: u8) -> Option<[u8; 16]>
 }
 
 impl Order {
-    // The order as one number: four bits a place.
-    pub fn code(self) -> u64
-        ensures { λ r. ⌜ r ≡ self .code ⌝ }
-    {
-        self.code
-    }
-
     // The order with this code, if there is one.
     pub fn from_code(code: u64) -> Option<Order>
         ensures { λ r. ⌜ Made code r ⌝ }
