@@ -52,13 +52,15 @@ unfolding spreads
 spreads-right f e = record {
   inside = λ k l h. (leb-true 1 (f k) (low k l h), leb-true (f k) 16 (and-left _ _ (high k l h)));
   apart = λ k m lk hk lm hm same.
-    eqb-true k m (apart-tells (eqb k m) (eqb (f k) (f m)) (each-at 16 (apart f k) (and-right _ _ (high k lk hk)) m lm hm) (eq-eqb (f k) (f m) same));
+      eqb-true k m (apart-tells (eqb k m) (eqb (f k) (f m)) (each-at 16 (apart f k) (and-right _ _ (high k lk hk)) m lm hm) (eq-eqb (f k) (f m) same));
 }
   where
     at : (k : ℕ) → 1 ≤ k → k ≤ 16 → leb 1 (f k) && (leb (f k) 16 && each-to 16 (apart f k)) ≡ true
     at = each-at 16 (λ k. leb 1 (f k) && (leb (f k) 16 && each-to 16 (apart f k))) e
+
     low : (k : ℕ) → 1 ≤ k → k ≤ 16 → leb 1 (f k) ≡ true
     low k l h = and-left (leb 1 (f k)) (leb (f k) 16 && each-to 16 (apart f k)) (at k l h)
+
     high : (k : ℕ) → 1 ≤ k → k ≤ 16 → leb (f k) 16 && each-to 16 (apart f k) ≡ true
     high k l h = and-right (leb 1 (f k)) (leb (f k) 16 && each-to 16 (apart f k)) (at k l h)
 

@@ -11,5 +11,5 @@ returns-then-repeats c o e =
     let twice = c .if-repeats .ensures tt in
     let j = c .loop-j .j in
     let same : digit (o .code) (twice .0) ≡ digit (o .code) j =
-        ap (λ (n : ℕ). digit n (twice .0)) e ∙ twice .2 ∙ sym (ap (λ (n : ℕ). digit n j) e) in
+    ap (λ (n : ℕ). digit n (twice .0)) e ∙ twice .2 ∙ sym (ap (λ (n : ℕ). digit n j) e) in
     omega (arith, twice .1, digits-apart o (twice .0) j (omega (arith, twice .1, c .loop-j-test .taken)) (c .loop-j-test .taken) same)

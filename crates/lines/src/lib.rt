@@ -1,0 +1,10 @@
+// Lines of numbers in base ten, as sheets, books and programs have them: no leading zeros, at most 14 digits, one blank
+// between two numbers.
+mod numbers;
+mod reads;
+mod rows;
+
+pub use numbers::Fields;
+pub use reads::fields;
+pub use reads::first_line;
+pub use rows::order_of;
