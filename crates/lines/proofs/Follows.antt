@@ -91,3 +91,21 @@ first-line-none text bar (n ∷ ns) v l h t = bar n (more ns) (v .0) (ends-more 
 pub cases-map : {A : Type 0} (P Q : Type 0) (R S : A → Type 0) (r : Option A) → (P → Q) → ((a : A) → R a → S a) → Cases r P R → Cases r Q S
 cases-map P Q R S None f g h = f h
 cases-map P Q R S (Some a) f g h = g a h
+
+-- a line is read in one way
+more-tells : (ns ms : List ℕ) → Values ns → Values ms → more ns ≡ more ms → ns ≡ ms
+more-tells [] [] v w e = refl
+more-tells [] (m ∷ ms) v w e = absurd (no-nil (sym e))
+more-tells (n ∷ ns) [] v w e = absurd (no-nil e)
+more-tells (n ∷ ns) (m ∷ ms) v w e =
+    let p = same-number n m (more ns) (more ms) (v .0) (w .0) (ends-more ns) (ends-more ms) (ap (drop 1) e) in
+    let q = more-tells ns ms (v .1) (w .1) (p .1) in
+    λ i. p .0 i ∷ q i
+
+pub written-tells : (ns ms : List ℕ) → Values ns → Values ms → 1 ≤ length ns → 1 ≤ length ms → written ns ≡ written ms → ns ≡ ms
+written-tells [] ms v w a b e = absurd (omega arith)
+written-tells (n ∷ ns) [] v w a b e = absurd (omega arith)
+written-tells (n ∷ ns) (m ∷ ms) v w a b e =
+    let p = same-number n m (more ns) (more ms) (v .0) (w .0) (ends-more ns) (ends-more ms) e in
+    let q = more-tells ns ms (v .1) (w .1) (p .1) in
+    λ i. p .0 i ∷ q i
