@@ -1,0 +1,13 @@
+pub mod Moves
+pub mod Level
+pub mod Table
+pub mod Rules
+pub mod Script
+pub mod Bodies
+pub mod Work
+pub mod Outright
+pub mod Numbers
+pub mod Meets
+pub mod Counting
+pub mod Theorems
+pub mod Examples
