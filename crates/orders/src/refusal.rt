@@ -6,6 +6,8 @@ ghost use Rattle.orders.specs.Refusals.{number};
 pub enum Refusal {
     // 3: a row is not 1 to 16 long, or has not each number from 1 to its length exactly once
     BadRow,
+    // 7: there is no room for a node, or for a list's record
+    NoRoom,
 }
 
 impl Refusal {
@@ -15,6 +17,7 @@ impl Refusal {
     {
         match self {
             Refusal::BadRow => 3,
+            Refusal::NoRoom => 7,
         }
     }
 }

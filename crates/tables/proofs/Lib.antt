@@ -1,0 +1,4 @@
+pub mod Rows
+mod Chains
+mod Makings
+mod Walks
