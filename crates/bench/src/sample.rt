@@ -1,11 +1,10 @@
 // A table of nodes that look random, the same at each run.
 ghost use Prim.Native.Nat.{_+_, _<_, _≤_};
-ghost use mathlib.Core.Path.{_≡_};
 ghost use lib.ListN.{length};
-ghost use Rattle.diagrams.specs.Level.{level};
 ghost use Rattle.diagrams.specs.Table.{Exists};
 ghost use Rattle.tables.specs.Rows.{rows};
 use diagrams::Node;
+use diagrams::level;
 use tables::ROOM;
 use tables::Table;
 
@@ -34,14 +33,6 @@ impl Dice {
     }
 }
 
-// The level of a pair.
-fn height(x: u8, y: u8) -> usize
-    ensures { λ r. ⌜ r ≡ level x y ⌝ }
-{
-    let x = x as usize;
-    x.saturating_sub(1) * x.saturating_sub(2) / 2 + x.saturating_sub(y as usize)
-}
-
 // Makes the node of four values if its parts are low enough, and there is room.
 fn add(table: &mut Table, x: u8, y: u8, lo: u32, hi: u32)
     requires most { ⌜ x ≤ 16 ⌝ }
@@ -52,7 +43,7 @@ fn add(table: &mut Table, x: u8, y: u8, lo: u32, hi: u32)
 {
     let low = table.get(lo);
     let high = table.get(hi);
-    if height(low.x, low.y) < height(x, y) {
+    if level(low.x, low.y) < level(x, y) {
         if high.x < x {
             let _ = table.node(ROOM, x, y, lo, hi);
         }

@@ -1,13 +1,13 @@
 -- The three kinds of work on two sets, by one truth table `op`. Assumes nothing.
-use mathlib.Core.Logic.{_⊎_, inl, inr}
-use mathlib.Core.Path.{_≡_, refl, sym, ap, ap₂, _∙_}
 use mathlib.Core.Bool.{Bool, true, false, _||_, false≢true, or-false}
+use mathlib.Core.Path.{_≡_, refl, sym, ap, ap₂, _∙_}
 use mathlib.Core.List.{List}
+use mathlib.Core.Logic.{_⊎_, inl, inr}
 use Prim.Native.Nat.{ℕ, _+_, _≤_, _<_}
 use native.Mathlib.Omega.{arith}
 use Rattle.orders.specs.declared.order.Order.{Order}
-use Rattle.orders.specs.Chains.{ChainLaws}
 use Rattle.orders.specs.Orders.{place}
+use Rattle.orders.specs.Chains.{ChainLaws}
 use Rattle.diagrams.specs.declared.Node.{Node}
 use Rattle.diagrams.specs.declared.Task.{Task}
 use Rattle.diagrams.specs.Moves.{Moves, back}
@@ -97,7 +97,7 @@ module _ (g : Moves) (laws : ChainLaws g) (N : List Node) (S : Sound N) (n : ℕ
         lo-there = omega (arith, m .there, q .extends .longer);
         hi-there = q .there;
         lo-level = rw (level-more M K (q .extends) r (m .there)) (level-if-low g laws M (m .sound) (x-of N n) (y-of N n) r (m .there) (p .y-min) (p .y-below)
-          (λ o i. low o (sym (m .means o) ∙ i)));
+            (λ o i. low o (sym (m .means o) ∙ i)));
         hi-x = x-if-still g laws K (q .sound) (x-of N n) s (q .there) (omega (arith, p .y-below)) (λ o i. still o (sym (q .means o) ∙ i));
       }
 
@@ -146,13 +146,13 @@ module _ (g : Moves) (laws : ChainLaws g) (op : Op) (none : op false false ≡ f
 
     pub above-set : op true false ≡ true → (o : Order) → NodeSet g M (x-of N a) (y-of N a) r (hi-of N a) o ≡ Combined g op N a b o
     above-set left o = relow-set g laws N S a ea above-node (Combined g op N (lo-of N a) b) lows M r m o
-      ∙ op-over op none left (mem g N (lo-of N a) o) (mem g N b o) (mem g N (hi-of N a) (back g (x-of N a) (y-of N a) o)) (apart o)
-      ∙ ap (λ (t : Bool). op t (mem g N b o)) (sym (mem-parts g N S a ea above-node o))
+        ∙ op-over op none left (mem g N (lo-of N a) o) (mem g N b o) (mem g N (hi-of N a) (back g (x-of N a) (y-of N a) o)) (apart o)
+        ∙ ap (λ (t : Bool). op t (mem g N b o)) (sym (mem-parts g N S a ea above-node o))
 
     pub skip-set : ((p : Bool) → op p false ≡ false) → (o : Order) → mem g M r o ≡ Combined g op N a b o
     skip-set off o = m .means o
-      ∙ op-skip op none off (mem g N (lo-of N a) o) (mem g N b o) (mem g N (hi-of N a) (back g (x-of N a) (y-of N a) o)) (apart o)
-      ∙ ap (λ (t : Bool). op t (mem g N b o)) (sym (mem-parts g N S a ea above-node o))
+        ∙ op-skip op none off (mem g N (lo-of N a) o) (mem g N b o) (mem g N (hi-of N a) (back g (x-of N a) (y-of N a) o)) (apart o)
+        ∙ ap (λ (t : Bool). op t (mem g N b o)) (sym (mem-parts g N S a ea above-node o))
 
 -- the case of one level
 module _ (g : Moves) (laws : ChainLaws g) (op : Op) (none : op false false ≡ false) (N : List Node) (S : Sound N) (a b : ℕ)
@@ -210,7 +210,7 @@ module _ (g : Moves) (laws : ChainLaws g) (op : Op) (none : op false false ≡ f
         let b-is : mem g N b o ≡ (mem g N (lo-of N b) o || mem g N (hi-of N b) w) = rw (ex, ey) (mem-parts g N S b eb hb o) in
         anew-set g laws N S a ea ha _ _ both-lows stills M r m K s q′ o
         ∙ op-cross op none (mem g N (lo-of N a) o) (mem g N (lo-of N b) o) (mem g N (hi-of N a) w) (mem g N (hi-of N b) w)
-          (λ u v. omega (arith, both-low o u .above, both-high o v .reached))
+        (λ u v. omega (arith, both-low o u .above, both-high o v .reached))
         ∙ sym (ap₂ op (mem-parts g N S a ea ha o) b-is)
 
 -- What the rules of the three kinds owe, by shape.
@@ -223,24 +223,36 @@ module _ (g : Moves) (laws : ChainLaws g) (op : Op) (T : ℕ → ℕ → Task) (
       let pa = parts N S a ea ha in
       let pb = parts N S b eb hb in
       let ia : Exists N (hi-of N a) = omega arith in
-      let ib : Exists N (hi-of N b) = omega arith in
-      (B .valid N _ _ (omega arith) (omega arith), rw (B .deep N (lo-of N a) (lo-of N b)) (omega (arith, lo-lower N S a ea ha, lo-lower N S b eb hb)), λ M r m.
-        (B .valid M _ _ (omega (arith, m .extends .longer)) (omega (arith, m .extends .longer)),
-         rw (B .deep M (hi-of N a) (hi-of N b), level-more N M (m .extends) (hi-of N a) ia, level-more N M (m .extends) (hi-of N b) ib) (omega (arith, hi-lower N S a ea ha, hi-lower N S b eb hb)),
-         λ K s q.
-           let m′ = made-as g op N M (lo-of N a) (lo-of N b) r T B m in
-           let q′ = made-as g op M K (hi-of N a) (hi-of N b) s T B q in
-           (beside-asks g laws op (B .none) N S a b ea eb ha hb l M r m′ K s q′, λ L v w. (w .there, λ o. w .means o ∙ beside-set g laws op (B .none) N S a b ea eb ha hb l M r m′ K s q′ o))))
+      let ib : Exists N (hi-of N b) = omega arith in (
+        B .valid N _ _ (omega arith) (omega arith),
+        rw (B .deep N (lo-of N a) (lo-of N b)) (omega (arith, lo-lower N S a ea ha, lo-lower N S b eb hb)),
+        λ M r m. (
+          B .valid M _ _ (omega (arith, m .extends .longer)) (omega (arith, m .extends .longer)),
+          rw (B .deep M (hi-of N a) (hi-of N b), level-more N M (m .extends) (hi-of N a) ia, level-more N M (m .extends) (hi-of N b) ib) (omega (arith, hi-lower N S a ea ha, hi-lower N S b eb hb)),
+          λ K s q.
+              let m′ = made-as g op N M (lo-of N a) (lo-of N b) r T B m in
+              let q′ = made-as g op M K (hi-of N a) (hi-of N b) s T B q in
+              (beside-asks g laws op (B .none) N S a b ea eb ha hb l M r m′ K s q′, λ L v w. (w .there, λ o. w .means o ∙ beside-set g laws op (B .none) N S a b ea eb ha hb l M r m′ K s q′ o)),
+        ),
+      )
 
   module _ (l : level-of N b < level-of N a) where
     less : measure N (T (lo-of N a) b) < level-of N a + level-of N b
     less = rw (B .deep N (lo-of N a) b) (above-less g laws op (B .none) N S a b ea eb l)
 
     pub over-meets : op true false ≡ true → Owed (enter (T (lo-of N a) b) (λ r. make (x-of N a) (y-of N a) r (hi-of N a) answer))
-    over-meets left = (B .valid N _ _ (lo-in g laws op (B .none) N S a b ea eb l) eb, less, λ M r m.
-      let m′ = made-as g op N M (lo-of N a) b r T B m in
-      (above-asks g laws op (B .none) N S a b ea eb l M r m′, λ L v w. (w .there, λ o. w .means o ∙ above-set g laws op (B .none) N S a b ea eb l M r m′ left o)))
+    over-meets left = (
+      B .valid N _ _ (lo-in g laws op (B .none) N S a b ea eb l) eb,
+      less,
+      λ M r m.
+          let m′ = made-as g op N M (lo-of N a) b r T B m in
+          (above-asks g laws op (B .none) N S a b ea eb l M r m′, λ L v w. (w .there, λ o. w .means o ∙ above-set g laws op (B .none) N S a b ea eb l M r m′ left o)),
+    )
 
     pub skip-meets : ((p : Bool) → op p false ≡ false) → Owed (enter (T (lo-of N a) b) answer)
-    skip-meets off = (B .valid N _ _ (lo-in g laws op (B .none) N S a b ea eb l) eb, less, λ M r m.
-      (m .there, skip-set g laws op (B .none) N S a b ea eb l M r (made-as g op N M (lo-of N a) b r T B m) off))
+    skip-meets off = (
+      B .valid N _ _ (lo-in g laws op (B .none) N S a b ea eb l) eb,
+      less,
+      λ M r m.
+          (m .there, skip-set g laws op (B .none) N S a b ea eb l M r (made-as g op N M (lo-of N a) b r T B m) off),
+    )

@@ -1,7 +1,7 @@
 -- Truth values. Assumes nothing.
-use mathlib.Core.Bool.{Bool, true, false, _||_, false≢true}
 use mathlib.Core.Path.{_≡_, refl, sym}
-use mathlib.Core.Logic.{_⊎_, inl, inr}
+use mathlib.Core.Logic.{_⊎_, inl, inr, _↔_}
+use mathlib.Core.Bool.{Bool, true, false, not, _||_, _&&_, false≢true}
 
 pub or-split : (a b : Bool) → (a || b) ≡ true → (a ≡ true) ⊎ (b ≡ true)
 or-split true b h = inl refl
@@ -21,24 +21,48 @@ both-ways true b f g = sym (f refl)
 both-ways false true f g = g refl
 both-ways false false f g = refl
 
--- unions in another order
-pub or-mid : (a b c : Bool) → ((a || b) || c) ≡ ((a || c) || b)
-or-mid true b c = refl
-or-mid false true true = refl
-or-mid false true false = refl
-or-mid false false true = refl
-or-mid false false false = refl
-
-pub or-turn : (a b c : Bool) → ((a || b) || c) ≡ (a || (b || c))
-or-turn true b c = refl
-or-turn false b c = refl
-
-pub or-cross : (a b c d : Bool) → ((a || b) || (c || d)) ≡ ((a || c) || (b || d))
-or-cross true b c d = refl
-or-cross false true true d = refl
-or-cross false true false d = refl
-or-cross false false c d = refl
-
 pub or-none : (a b : Bool) → (a || b) ≡ false → (a ≡ false) × (b ≡ false)
 or-none true b h = absurd (false≢true (sym h))
 or-none false b h = (refl, h)
+
+pub and-self : (p : Bool) → p ≡ (p && p)
+and-self true = refl
+and-self false = refl
+
+pub and-none : (p : Bool) → false ≡ (p && false)
+and-none true = refl
+and-none false = refl
+
+pub and-all : (p : Bool) → p ≡ (p && true)
+and-all true = refl
+and-all false = refl
+
+pub and-other : (p : Bool) → false ≡ (p && not p)
+and-other true = refl
+and-other false = refl
+
+pub and-or : (p q t : Bool) → ((p && t) || (q && t)) ≡ ((p || q) && t)
+and-or true q true = refl
+and-or true true false = refl
+and-or true false false = refl
+and-or false q t = refl
+
+pub and-if : (p q : Bool) → (p ≡ true → q ≡ true) → p ≡ (p && q)
+and-if true q f = sym (f refl)
+and-if false q f = refl
+
+pub and-not : (p q : Bool) → (p ≡ true → q ≡ false) → false ≡ (p && q)
+and-not true q f = sym (f refl)
+and-not false q f = refl
+
+pub and-is : (p q : Bool) → ((p && q) ≡ true) ↔ ((p ≡ true) × (q ≡ true))
+and-is true q = (λ h. (refl, h), λ h. h .1)
+and-is false q = (λ h. absurd (false≢true h), λ h. h .0)
+
+pub not-is : (q : Bool) → (not q ≡ true) ↔ (q ≡ true → ⊥)
+not-is true = (λ h. absurd (false≢true h), λ h. absurd (h refl))
+not-is false = (λ h k. false≢true k, λ h. refl)
+
+pub or-either : (p q : Bool) → (p ≡ true) ⊎ (q ≡ true) → (p || q) ≡ true
+or-either p q (inl e) = or-left p q e
+or-either p q (inr e) = or-right p q e

@@ -1,7 +1,7 @@
 -- One set, one number. Assumes nothing.
-use mathlib.Core.Logic.{_⊎_, inl, inr}
 use mathlib.Core.Path.{_≡_, refl, sym, ap, _∙_}
 use mathlib.Core.List.{List}
+use mathlib.Core.Logic.{_⊎_, inl, inr}
 use mathlib.Core.Bool.{false≢true}
 use Prim.Native.Nat.{ℕ, zero, suc, _+_, _≤_, _<_}
 use native.Mathlib.Omega.{arith}
@@ -13,9 +13,9 @@ use Rattle.orders.specs.Chains.{ChainLaws}
 use Rattle.diagrams.specs.declared.Node.{Node}
 use Rattle.diagrams.specs.Moves.{Moves, back}
 use Rattle.diagrams.specs.Table.{at, Exists, x-of, y-of, Sound, NodeOk, mem, In}
-use Rattle.diagrams.proofs.Bools.{or-split, or-left, or-right, both-ways}
 use Rattle.diagrams.proofs.Folds.{mem-zero, mem-one, mem-node}
 use Rattle.diagrams.proofs.Places.{Upto, upto, low, high}
+use Rattle.diagrams.proofs.Bools.{or-split, or-left, or-right, both-ways}
 use Rattle.diagrams.proofs.Groups.{same-refl, back-move}
 
 module _ (g : Moves) (N : List Node) (S : Sound N) where
@@ -147,9 +147,9 @@ module _ (g : Moves) (laws : ChainLaws g) (N : List Node) (S : Sound N) where
         same-x = t .0;
         same-y = t .1;
         same-lo = canon-deep b (at N i .lo) (at N j .lo) (omega arith) (omega arith) (omega arith) (omega arith)
-          (λ o. both-ways _ _ (lows i j l q f o) (lows j i q l back-f o));
+            (λ o. both-ways _ _ (lows i j l q f o) (lows j i q l back-f o));
         same-hi = canon-deep b (at N i .hi) (at N j .hi) (omega arith) (omega arith) (omega arith) (omega arith)
-          (λ o. both-ways _ _ (highs i j l q f o) (highs j i q l back-f o));
+            (λ o. both-ways _ _ (highs i j l q f o) (highs j i q l back-f o));
       })
 
   -- two numbers with one set are one number

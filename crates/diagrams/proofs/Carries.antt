@@ -1,17 +1,17 @@
 -- What `carry` means. Assumes nothing.
 use mathlib.Core.Path.{_≡_, refl, sym, ap, ap₂, _∙_}
-use mathlib.Core.Bool.{Bool, true, false, _||_, false≢true}
 use mathlib.Core.List.{List}
+use mathlib.Core.Bool.{Bool, true, false, _||_, false≢true}
 use Prim.Native.Nat.{ℕ, _+_, _*_, _≤_, _<_, max}
-use native.Mathlib.Omega.{arith}
 use native.Mathlib.Decide.{ℕ-discrete}
+use native.Mathlib.Omega.{arith}
 use lib.Dec.{eqb, ltb}
 use borrow.Author.Tests.{eqb-true, eqb-false, ltb-true, ltb-false}
 use Rattle.orders.specs.declared.order.Order.{Order}
-use Rattle.orders.specs.Dimension.{dimension, dimension-within, dimension-moves, dimension-still}
 use Rattle.orders.specs.Orders.{place, standing, then, inverse, place-then}
-use Rattle.orders.specs.Group.{then-standing, inverse-standing}
 use Rattle.orders.specs.Chains.{ChainLaws}
+use Rattle.orders.specs.Dimension.{dimension, dimension-within, dimension-moves, dimension-still}
+use Rattle.orders.specs.Group.{then-standing, inverse-standing}
 use Rattle.diagrams.specs.declared.Node.{Node}
 use Rattle.diagrams.specs.declared.Task.the-variants.{Join}
 use Rattle.diagrams.specs.Moves.{Moves, same, back}
@@ -24,10 +24,10 @@ use Rattle.diagrams.proofs.Levels.{level-pos}
 use Rattle.diagrams.proofs.Folds.{x-more, mem-more, mem-zero}
 use Rattle.diagrams.proofs.Places.{upto}
 use Rattle.diagrams.proofs.Pushes.{extends-trans}
+use Rattle.diagrams.proofs.Tops.{mem-parts, x-if-still, high-still}
+use Rattle.diagrams.proofs.Dims.{dim-if, dim-some, place-upto}
 use Rattle.diagrams.proofs.Groups.{same-refl, same-sound, place-min, redo, back-both, back-carried, place-back}
 use Rattle.diagrams.proofs.Numbers.{level-small, x-some, Parts, parts, level-max, lo-x}
-use Rattle.diagrams.proofs.Dims.{dim-if, dim-some, place-upto}
-use Rattle.diagrams.proofs.Tops.{mem-parts, x-if-still, high-still}
 
 abbrev pub carry-depth : List Node → ℕ → Order → ℕ
 carry-depth N a h = max (x-of N a) (dimension h) * 128 + level-of N a
@@ -168,7 +168,7 @@ module _ (g : Moves) (laws : ChainLaws g) where
       module _ (K : List Node) (s : ℕ) (m : Made g M (Carried g M (hi-of N a) (back g x z k)) K s) where
         hi-rests : (o : Order) → Carried g M (hi-of N a) (back g x z k) o ≡ true → Rests x o
         hi-rests = carried-rests M (hi-of N a) x (back g x z k)
-          (λ p i. high-still g laws N S a ea node-a p (sym (mem-more g N M S X (hi-of N a) hi-in p) ∙ i)) moved-rests
+            (λ p i. high-still g laws N S a ea node-a p (sym (mem-more g N M S X (hi-of N a) hi-in p) ∙ i)) moved-rests
 
         pub moved-asks : Asks K x z 0 s
         moved-asks = lift-asks M K _ s x z m hi-rests (pa .x-max) z-min c
@@ -182,9 +182,8 @@ module _ (g : Moves) (laws : ChainLaws g) where
     turn-set M r m K s q o =
         let low : mem g K r o ≡ Carried g N (lo-of N a) h o = mem-more g M K (m .sound) (q .extends) r (m .there) o ∙ m .means o in
         let top : mem g K s o ≡ mem g N (hi-of N a) (back g x (y-of N a) (then o (inverse h))) =
-          q .means o ∙ mem-more g N M S (m .extends) (hi-of N a) hi-in (then o (inverse k)) ∙ ap (mem g N (hi-of N a)) (sym (back-carried g x (y-of N a) o h)) in
+        q .means o ∙ mem-more g N M S (m .extends) (hi-of N a) hi-in (then o (inverse k)) ∙ ap (mem g N (hi-of N a)) (sym (back-carried g x (y-of N a) o h)) in
         ap₂ _||_ low top ∙ sym (mem-parts g N S a ea node-a (then o (inverse h)))
-
 
 -- what the rule owes
 module _ (g : Moves) (laws : ChainLaws g) where
@@ -196,8 +195,12 @@ module _ (g : Moves) (laws : ChainLaws g) where
     Owed M s = Meets g (Carried g N a h) (250 + carry-depth N a h) M s
 
     raise-meets : x-of N a < dimension h → Owed N (carry-body g (row N a) a h false false true)
-    raise-meets l = (ea, omega (arith, raise-less g laws N S a h ea l), λ M r m.
-      (raise-asks g laws N S a h ea l M r m, λ L v w. (w .there, λ o. w .means o ∙ raise-set g laws N S a h ea l M r m o)))
+    raise-meets l = (
+      ea,
+      omega (arith, raise-less g laws N S a h ea l),
+      λ M r m.
+          (raise-asks g laws N S a h ea l M r m, λ L v w. (w .there, λ o. w .means o ∙ raise-set g laws N S a h ea l M r m o)),
+    )
 
     module _ (l : dimension h ≤ x-of N a) (one : 1 ≤ dimension h) where
       abbrev k′ : Order
@@ -213,19 +216,27 @@ module _ (g : Moves) (laws : ChainLaws g) where
       last : (M : List Node) (r : ℕ) (m : Made g N (Carried g N (lo-of N a) h) M r) (K : List Node) (s : ℕ) (q : Made g M (Carried g M (hi-of N a) k′) K s) →
           Owed K (enter (Join r s) answer)
       last M r m K s q =
-          let e : Exists K r = omega (arith, m .there, q .extends .longer) in
-          ((e, q .there), omega (arith, level-max K (q .sound) r e, level-max K (q .sound) s (q .there)), λ L v w.
-            (w .there, λ o. w .means o ∙ turn-set g laws N S a h ea l one M r m K s q o))
+          let e : Exists K r = omega (arith, m .there, q .extends .longer) in (
+            (e, q .there),
+            omega (arith, level-max K (q .sound) r e, level-max K (q .sound) s (q .there)),
+            λ L v w.
+                (w .there, λ o. w .means o ∙ turn-set g laws N S a h ea l one M r m K s q o),
+          )
 
       high : (M : List Node) (r : ℕ) (m : Made g N (Carried g N (lo-of N a) h) M r) (t : Bool) → eqb z′ (x-of N a) ≡ t → Owed M (high-body g (x-of N a) z′ (hi-of N a) k′ r t)
       high M r m true e =
           (in-hi M (m .extends), omega (arith, kept-less g laws N S a h ea l one M (m .sound) (m .extends) (eqb-true z′ (x-of N a) e)), λ K s q. last M r m K s q)
       high M r m false e =
           let ne : ¬ (z′ ≡ x-of N a) = eqb-false z′ (x-of N a) e in
-          let c : z′ < x-of N a = omega (arith, z-max g laws N S a h ea l one) in
-          (in-hi M (m .extends), omega (arith, moved-less g laws N S a h ea l one c M (m .sound) (m .extends)), λ K s q.
-            (moved-asks g laws N S a h ea l one c M (m .sound) (m .extends) K s q, λ J v w.
-              last M r m J v (made-comp M K _ _ J v (q .extends) (moved-set g laws N S a h ea l one c M (m .sound) (m .extends) K s q) w)))
+          let c : z′ < x-of N a = omega (arith, z-max g laws N S a h ea l one) in (
+            in-hi M (m .extends),
+            omega (arith, moved-less g laws N S a h ea l one c M (m .sound) (m .extends)),
+            λ K s q. (
+              moved-asks g laws N S a h ea l one c M (m .sound) (m .extends) K s q,
+              λ J v w.
+                  last M r m J v (made-comp M K _ _ J v (q .extends) (moved-set g laws N S a h ea l one c M (m .sound) (m .extends) K s q) w),
+            ),
+          )
 
       turn-meets : Owed N (carry-body g (row N a) a h false false false)
       turn-meets =

@@ -1,7 +1,7 @@
 -- The count of a node is the number of its orders. Assumes nothing.
-use mathlib.Core.Logic.{_⊎_, inl, inr}
-use mathlib.Core.List.{List, [], _∷_, _++_, map}
 use mathlib.Core.Path.{_≡_, refl, sym, ap, ap₂, _∙_, subst}
+use mathlib.Core.List.{List, [], _∷_, _++_, map}
+use mathlib.Core.Logic.{_⊎_, inl, inr}
 use Prim.Native.Nat.{ℕ, zero, suc, _<_}
 use native.Mathlib.Omega.{arith}
 use lib.ListN.{length, length-append, length-map}
@@ -67,8 +67,8 @@ module _ (g : Moves) (laws : ChainLaws g) (N : List Node) (S : Sound N) where
   list-node i l =
       let k = S .ok i l in
       ap₂ (list-of-node g (at N i))
-        (fold-deep [] (standing ∷ []) (list-of-node g) N S (suc (suc i)) (suc (at N i .lo)) (at N i .lo) (omega arith) (omega arith) (omega arith))
-        (fold-deep [] (standing ∷ []) (list-of-node g) N S (suc (suc i)) (suc (at N i .hi)) (at N i .hi) (omega arith) (omega arith) (omega arith))
+      (fold-deep [] (standing ∷ []) (list-of-node g) N S (suc (suc i)) (suc (at N i .lo)) (at N i .lo) (omega arith) (omega arith) (omega arith))
+      (fold-deep [] (standing ∷ []) (list-of-node g) N S (suc (suc i)) (suc (at N i .hi)) (at N i .hi) (omega arith) (omega arith) (omega arith))
 
   -- a node, of whose parts it holds
   module _ (i : ℕ) (l : i < length N) (lo : Counted g N (at N i .lo)) (hi : Counted g N (at N i .hi)) where

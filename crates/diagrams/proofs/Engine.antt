@@ -1,7 +1,7 @@
 -- The laws of the engine, once for all kinds of work. Assumes nothing.
-use mathlib.Core.Bool.{Bool}
 use mathlib.Core.Path.{_≡_, refl, sym, ap, _∙_, subst}
 use mathlib.Core.List.{List}
+use mathlib.Core.Bool.{Bool}
 use Prim.Native.Nat.{ℕ, zero, suc, _+_, _≤_, _<_}
 use native.Mathlib.Nat.{le-refl, le-trans}
 use native.Mathlib.Omega.{arith}
@@ -96,16 +96,16 @@ module _ (g : Moves) (cap : ℕ) where
     unfolding go
     go-makes (answer r) N S h n = record { sound = S; extends = extends-self N; there = h .0; means = h .1 }
     go-makes (make x y lo hi k) N S h n = makes-then N _ P _ _ (node-makes g cap N S x y lo hi n (h .0)) (λ K r q w.
-      made-from N K P _ (w .extends) (go-makes (k r) K (w .sound) (h .1 K r w) q))
+        made-from N K P _ (w .extends) (go-makes (k r) K (w .sound) (h .1 K r w) q))
     go-makes (enter t k) N S h n = makes-then N _ P _ _ (makes N t S (h .0) (h .1)) (λ K r q w.
-      made-from N K P _ (w .extends) (go-makes (k r) K (w .sound) (h .2 K r w) (n + q)))
+        made-from N K P _ (w .extends) (go-makes (k r) K (w .sound) (h .2 K r w) (n + q)))
 
     go-same : (other : Rec) → ((N : List Node) (t : Task) → Sound N → Valid N t → measure N t < m → rec N t ≡ other N t) →
         (s : Script) (N : List Node) → Sound N → Meets g P m N s → (n : ℕ) → go cap rec N s n ≡ go cap other N s n
     unfolding go
     go-same other e (answer r) N S h n = refl
     go-same other e (make x y lo hi k) N S h n = same-then N _ _ _ _ (node-makes g cap N S x y lo hi n (h .0)) (λ K r q w.
-      go-same other e (k r) K (w .sound) (h .1 K r w) q)
+        go-same other e (k r) K (w .sound) (h .1 K r w) q)
     go-same other e (enter t k) N S h n =
         same-then N _ _ _ _ (makes N t S (h .0) (h .1)) (λ K r q w. go-same other e (k r) K (w .sound) (h .2 K r w) (n + q))
         ∙ ap (λ (o : Outcome). after o (λ M r q. go cap other M (k r) (n + q))) (e N t S (h .0) (h .1))
@@ -142,9 +142,9 @@ module _ (g : Moves) (cap : ℕ) where
         go-settled (enter t k) N M S h n r q e =
             step-settled N M _ (rec N t) (rec M t) (λ K v p. go cap rec K (k v) (n + p)) r q (makes N t S (h .0) (h .1))
             (λ K v p w f i.
-              let z = ends (k v) K (w .sound) (h .2 K v w) (n + p) M r q f in
-              let less : measure K t < m = rw (same-measure N K t (w .extends) (h .0)) (h .1) in
-              stable K M t v p (w .sound) (z .sound) (z .extends) (still-valid N K t (w .extends) (h .0)) less (settled N K t v p S (h .0) (h .1) i))
+            let z = ends (k v) K (w .sound) (h .2 K v w) (n + p) M r q f in
+            let less : measure K t < m = rw (same-measure N K t (w .extends) (h .0)) (h .1) in
+            stable K M t v p (w .sound) (z .sound) (z .extends) (still-valid N K t (w .extends) (h .0)) less (settled N K t v p S (h .0) (h .1) i))
             (λ K v p w f. go-settled (k v) K M (w .sound) (h .2 K v w) (n + p) r q f) e
 
 module _ (g : Moves) (laws : ChainLaws g) (cap : ℕ) where
@@ -170,7 +170,7 @@ module _ (g : Moves) (laws : ChainLaws g) (cap : ℕ) where
   deep-stable (suc f) N M t r n S T X v l e =
       ap (λ (s : Script). go cap (deep-of f) M s 1) (same-body g N M t X v)
       ∙ go-stable g cap (measure N t) (deep-of f) (λ K u U w i. deep-makes f K u U w (omega arith)) (Set g N t)
-        (λ K J u a b U W Y w i. deep-stable f K J u a b U W Y w (omega arith)) (body g N t) N M S T X (meets g laws N t S v) 1 r n e
+      (λ K J u a b U W Y w i. deep-stable f K J u a b U W Y w (omega arith)) (body g N t) N M S T X (meets g laws N t S v) 1 r n e
 
   deep-settled : (f : ℕ) → SettledBelow g cap f (deep-of f)
   unfolding deep
@@ -179,8 +179,8 @@ module _ (g : Moves) (laws : ChainLaws g) (cap : ℕ) where
       let X = made-at g cap N _ (deep-of (suc f) N t) M r n e (deep-makes (suc f) N t S v l) .extends in
       ap (λ (s : Script). go cap (deep-of f) M s 1) (same-body g N M t X v)
       ∙ go-settled g cap (measure N t) (deep-of f) (λ K u U w i. deep-makes f K u U w (omega arith)) (Set g N t)
-        (λ K J u a b U W Y w i. deep-stable f K J u a b U W Y w (omega arith))
-        (λ K J u a b U w i. deep-settled f K J u a b U w (omega arith)) (body g N t) N M S (meets g laws N t S v) 1 r n e
+      (λ K J u a b U W Y w i. deep-stable f K J u a b U W Y w (omega arith))
+      (λ K J u a b U w i. deep-settled f K J u a b U w (omega arith)) (body g N t) N M S (meets g laws N t S v) 1 r n e
 
   module _ (N : List Node) (t : Task) (S : Sound N) (v : Valid N t) where
     pub task-makes : Makes g cap N (Set g N t) (task g cap N t)

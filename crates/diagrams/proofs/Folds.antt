@@ -1,7 +1,7 @@
 -- What a number comes to: by its parts, and in a longer table. Assumes nothing.
-use mathlib.Core.Bool.{Bool, false, _||_}
 use mathlib.Core.Path.{_≡_, refl, ap, ap₂}
 use mathlib.Core.List.{List}
+use mathlib.Core.Bool.{Bool, false, _||_}
 use Prim.Native.Nat.{ℕ, zero, suc, _<_}
 use native.Mathlib.Omega.{arith}
 use lib.ListN.{length}
@@ -22,8 +22,8 @@ fold-deep z u s N S (suc f) (suc d) (suc zero) hf hg e = refl
 fold-deep z u s N S (suc f) (suc d) (suc (suc i)) hf hg e =
     let k = S .ok i (omega arith) in
     ap₂ (s (at N i))
-      (fold-deep z u s N S f d (at N i .lo) (omega arith) (omega arith) (omega arith))
-      (fold-deep z u s N S f d (at N i .hi) (omega arith) (omega arith) (omega arith))
+    (fold-deep z u s N S f d (at N i .lo) (omega arith) (omega arith) (omega arith))
+    (fold-deep z u s N S f d (at N i .hi) (omega arith) (omega arith) (omega arith))
 
 -- a longer table says the same
 pub fold-more : {A : Type 0} (z u : A) (s : Node → A → A → A) (N M : List Node) → Sound N → Extends N M →
@@ -36,8 +36,8 @@ fold-more z u s N M S X (suc f) (suc (suc i)) e =
     let l : i < length N = omega arith in
     let k = S .ok i l in
     rw (X .kept i l) (ap₂ (s (at N i))
-      (fold-more z u s N M S X f (at N i .lo) (omega arith))
-      (fold-more z u s N M S X f (at N i .hi) (omega arith)))
+    (fold-more z u s N M S X f (at N i .lo) (omega arith))
+    (fold-more z u s N M S X f (at N i .hi) (omega arith)))
 
 pub x-more : (N M : List Node) → Extends N M → (n : ℕ) → Exists N n → x-of M n ≡ x-of N n
 unfolding x-of
@@ -78,8 +78,8 @@ module _ (g : Moves) where
   mem-node N S i l o =
       let k = S .ok i l in
       ap (λ (F : Order → Bool). F o) (ap₂ (at-node g (at N i))
-        (fold-deep (λ _. false) at-one (at-node g) N S (suc (suc i)) (suc (at N i .lo)) (at N i .lo) (omega arith) (omega arith) (omega arith))
-        (fold-deep (λ _. false) at-one (at-node g) N S (suc (suc i)) (suc (at N i .hi)) (at N i .hi) (omega arith) (omega arith) (omega arith)))
+      (fold-deep (λ _. false) at-one (at-node g) N S (suc (suc i)) (suc (at N i .lo)) (at N i .lo) (omega arith) (omega arith) (omega arith))
+      (fold-deep (λ _. false) at-one (at-node g) N S (suc (suc i)) (suc (at N i .hi)) (at N i .hi) (omega arith) (omega arith) (omega arith)))
 
   -- a longer table has the same sets under the same numbers
   pub mem-more : (N M : List Node) → Sound N → Extends N M → (n : ℕ) → Exists N n → (o : Order) → mem g M n o ≡ mem g N n o

@@ -1,8 +1,8 @@
 -- What `follow` means. Assumes nothing.
-use mathlib.Core.Logic.{_⊎_, inl, inr}
 use mathlib.Core.Path.{_≡_, refl, sym, ap, ap₂, _∙_, fun-ext}
-use mathlib.Core.Bool.{Bool, true, false, _||_, false≢true}
 use mathlib.Core.List.{List}
+use mathlib.Core.Logic.{_⊎_, inl, inr}
+use mathlib.Core.Bool.{Bool, true, false, _||_, false≢true}
 use Prim.Native.Nat.{ℕ, zero, suc, _+_, _≤_, _<_}
 use native.Mathlib.Omega.{arith}
 use lib.Dec.{eqb}
@@ -19,11 +19,11 @@ use Rattle.diagrams.specs.Script.{Script}
 use Rattle.diagrams.specs.Bodies.{row, follow-body}
 use Rattle.diagrams.specs.Work.{followed}
 use Rattle.diagrams.specs.Meets.{Meets}
-use Rattle.diagrams.proofs.Bools.{or-split, or-left, or-right, or-none}
 use Rattle.diagrams.proofs.Folds.{fold-deep, fold-more, level-more, mem-more, mem-zero, mem-one}
 use Rattle.diagrams.proofs.Pushes.{extends-trans}
-use Rattle.diagrams.proofs.Groups.{same-refl, same-sound, back-both}
 use Rattle.diagrams.proofs.Numbers.{parts, level-max, x-max, lo-lower, hi-lower}
+use Rattle.diagrams.proofs.Bools.{or-split, or-left, or-right, or-none}
+use Rattle.diagrams.proofs.Groups.{same-refl, same-sound, back-both}
 use Rattle.diagrams.proofs.Tops.{mem-parts}
 
 module _ (g : Moves) where
@@ -40,8 +40,8 @@ module _ (g : Moves) where
       let l : i < length N = omega arith in
       let k = S .ok i l in
       ap (λ (F : Order → Bool). F o) (ap₂ (at-node g (at N i))
-        (fold-deep (λ _. false) u (at-node g) N S (suc (suc i)) (suc (at N i .lo)) (at N i .lo) (omega arith) (omega arith) (omega arith))
-        (fold-deep (λ _. false) u (at-node g) N S (suc (suc i)) (suc (at N i .hi)) (at N i .hi) (omega arith) (omega arith) (omega arith)))
+      (fold-deep (λ _. false) u (at-node g) N S (suc (suc i)) (suc (at N i .lo)) (at N i .lo) (omega arith) (omega arith) (omega arith))
+      (fold-deep (λ _. false) u (at-node g) N S (suc (suc i)) (suc (at N i .hi)) (at N i .hi) (omega arith) (omega arith) (omega arith)))
 
   parts-none : (u : Order → Bool) → ((o : Order) → u o ≡ false) → (N : List Node) → Sound N → (d n : ℕ) → n < d → Exists N n → (o : Order) → by-parts u N n o ≡ false
   parts-none u f N S zero n l e o = absurd (omega arith)
@@ -52,7 +52,7 @@ module _ (g : Moves) where
       let p = parts N S (suc (suc i)) e (omega arith) in
       parts-node u N S (suc (suc i)) e (omega arith) o
       ∙ ap₂ _||_ (parts-none u f N S d (lo-of N (suc (suc i))) (omega arith) (omega arith) o)
-        (parts-none u f N S d (hi-of N (suc (suc i))) (omega arith) (omega arith) (back g (x-of N (suc (suc i))) (y-of N (suc (suc i))) o))
+      (parts-none u f N S d (hi-of N (suc (suc i))) (omega arith) (omega arith) (back g (x-of N (suc (suc i))) (y-of N (suc (suc i))) o))
 
   pub followed-more : (N M : List Node) → Sound N → Extends N M → (a n : ℕ) → Exists N a → Exists N n → (o : Order) → followed g M a n o ≡ followed g N a n o
   unfolding followed
@@ -81,17 +81,31 @@ module _ (g : Moves) where
     parts-meet h =
         let p = parts N S b eb h in
         let il : Exists N (lo-of N b) = omega (arith, p .lo-below) in
-        let ih : Exists N (hi-of N b) = omega (arith, p .hi-below) in
-                ((ea, il), omega (arith, lo-lower N S b eb h), λ M r m.
-          let less : level-of M (hi-of N b) < level-of N b = rw (level-more N M (m .extends) (hi-of N b) ih) (hi-lower N S b eb h) in
-          ((omega (arith, m .extends .longer), omega (arith, m .extends .longer)), omega (arith, less), λ K s q.
-            (q .there, omega (arith, level-max K (q .sound) s (q .there), x-max K (q .sound) s (q .there), dimension-within (g (x-of N b) (y-of N b))), λ J v w.
-              let er : Exists J r = omega (arith, m .there, q .extends .longer, w .extends .longer) in
-              ((er, w .there), omega (arith, level-max J (w .sound) r er, level-max J (w .sound) v (w .there)), λ L u l.
-                (l .there, λ o. l .means o ∙ ap₂ _||_
-                  (mem-more g M J (m .sound) (extends-trans M K J (q .extends) (w .extends)) r (m .there) o ∙ m .means o)
-                  (w .means o ∙ q .means (back g (x-of N b) (y-of N b) o) ∙ followed-more N M S (m .extends) a (hi-of N b) ea ih (back g (x-of N b) (y-of N b) o))
-                  ∙ sym (followed-node N S a b eb h o))))))
+        let ih : Exists N (hi-of N b) = omega (arith, p .hi-below) in (
+          (ea, il),
+          omega (arith, lo-lower N S b eb h),
+          λ M r m.
+              let less : level-of M (hi-of N b) < level-of N b = rw (level-more N M (m .extends) (hi-of N b) ih) (hi-lower N S b eb h) in (
+                (omega (arith, m .extends .longer), omega (arith, m .extends .longer)),
+                omega (arith, less),
+                λ K s q. (
+                  q .there,
+                  omega (arith, level-max K (q .sound) s (q .there), x-max K (q .sound) s (q .there), dimension-within (g (x-of N b) (y-of N b))),
+                  λ J v w.
+                      let er : Exists J r = omega (arith, m .there, q .extends .longer, w .extends .longer) in (
+                        (er, w .there),
+                        omega (arith, level-max J (w .sound) r er, level-max J (w .sound) v (w .there)),
+                        λ L u l. (
+                          l .there,
+                          λ o. l .means o ∙ ap₂ _||_
+                              (mem-more g M J (m .sound) (extends-trans M K J (q .extends) (w .extends)) r (m .there) o ∙ m .means o)
+                              (w .means o ∙ q .means (back g (x-of N b) (y-of N b) o) ∙ followed-more N M S (m .extends) a (hi-of N b) ea ih (back g (x-of N b) (y-of N b) o))
+                              ∙ sym (followed-node N S a b eb h o),
+                        ),
+                      ),
+                ),
+              ),
+        )
 
     pub follow-meets : Owed N (follow-body g (row N b) a b (eqb a 0 || eqb b 0) (eqb b 1))
     unfolding followed
@@ -105,7 +119,7 @@ module _ (g : Moves) where
         by true t es et = (omega arith, none (or-split _ _ es))
         by false true es et = (ea, λ o. sym (rw (eqb-true b 1 et) (unfold followed fold in refl)))
         by false false es et =
-            let z : ¬ (b ≡ 0) = eqb-false b 0 (or-none _ _ es .1) in
+            let z : ¬ (b ≡ 0) = eqb-false b 0 (or-none (eqb a 0) (eqb b 0) es .1) in
             let w : ¬ (b ≡ 1) = eqb-false b 1 et in
             parts-meet (omega arith)
 
@@ -160,7 +174,7 @@ module _ (g : Moves) where
         let h : 2 ≤ suc (suc j) = omega arith in
         let p = parts N S (suc (suc j)) e h in
         node-in (suc (suc j)) e h o β (λ q. followed-in d _ (omega arith) (omega arith) o β q k)
-          (λ q. followed-in d _ (omega arith) (omega arith) _ _ q (ap (mem g N a) (back-both g _ _ o β) ∙ k)) i
+        (λ q. followed-in d _ (omega arith) (omega arith) _ _ q (ap (mem g N a) (back-both g _ _ o β) ∙ k)) i
 
     pub followed-is : (o : Order) → (followed g N a b o ≡ true → After b o) × ((β : Order) → In g N b β → In g N a (then o (inverse β)) → followed g N a b o ≡ true)
     followed-is o = (followed-out (suc b) b (omega arith) eb o, followed-in (suc b) b (omega arith) eb o)

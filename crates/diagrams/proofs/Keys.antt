@@ -1,6 +1,6 @@
 -- What tells tasks apart. Assumes nothing.
-use mathlib.Core.Path.{_≡_, ap₂}
 use mathlib.Core.List.{List}
+use mathlib.Core.Path.{_≡_, ap₂}
 use native.Mathlib.Omega.{arith}
 use Rattle.orders.specs.Orders.{code-tells}
 use Rattle.diagrams.specs.declared.Node.{Node}

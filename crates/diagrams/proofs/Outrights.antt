@@ -1,14 +1,14 @@
 -- What is answered outright, and what tells tasks apart. Assumes nothing.
-use mathlib.Core.Bool.{Bool, true, false, cond, _||_}
-use mathlib.Core.List.{List}
 use mathlib.Core.Path.{_≡_, refl, ap₂, _∙_}
+use mathlib.Core.List.{List}
+use mathlib.Core.Bool.{Bool, true, false, cond, _||_}
 use Prim.Native.Nat.{ℕ}
 use native.Mathlib.Omega.{arith}
 use lib.Dec.{eqb, ltb}
 use Rattle.std.specs.declared.option.Option.the-variants.{Some, None}
 use Rattle.orders.specs.declared.order.Order.{Order}
-use Rattle.orders.specs.Dimension.{dimension}
 use Rattle.orders.specs.Orders.{standing}
+use Rattle.orders.specs.Dimension.{dimension}
 use Rattle.diagrams.specs.declared.Node.{Node}
 use Rattle.diagrams.specs.declared.Task.{Task}
 use Rattle.diagrams.specs.declared.Task.the-variants.{Join, Meet, Without, Carry, Follow, Pick}

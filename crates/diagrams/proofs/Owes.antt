@@ -1,8 +1,8 @@
 -- Every kind of work keeps what the engine asks. Assumes nothing.
-use mathlib.Core.Logic.{_⊎_, inl, inr}
 use mathlib.Core.Bool.{Bool, true, false, not, cond, _||_, _&&_, or-false, or-self}
 use mathlib.Core.Path.{_≡_, refl, sym, _∙_, subst}
 use mathlib.Core.List.{List}
+use mathlib.Core.Logic.{_⊎_, inl, inr}
 use Prim.Native.Nat.{ℕ, _+_, _≤_, _<_}
 use native.Mathlib.Nat.{add-comm}
 use native.Mathlib.Omega.{arith}
@@ -21,12 +21,12 @@ use Rattle.diagrams.specs.Script.{Script}
 use Rattle.diagrams.specs.Bodies.{side, row, join-body, meet-body, without-body, body}
 use Rattle.diagrams.specs.Work.{Valid, Set, measure}
 use Rattle.diagrams.specs.Meets.{Meets}
-use Rattle.diagrams.proofs.Bools.{or-split, or-none}
 use Rattle.diagrams.proofs.Folds.{mem-zero}
 use Rattle.diagrams.proofs.Binary.{Op, Combined, Binary, both-meets, over-meets, skip-meets}
 use Rattle.diagrams.proofs.Carries.{carry-meets}
 use Rattle.diagrams.proofs.Follows.{follow-meets}
 use Rattle.diagrams.proofs.Picks.{pick-meets}
+use Rattle.diagrams.proofs.Bools.{or-split, or-none, and-self, and-none, and-all, and-other}
 use Rattle.diagrams.proofs.Numbers.{two-nodes}
 
 -- what a side says of two levels
@@ -43,22 +43,6 @@ side-is i j = by (eqb i j) (ltb j i) refl refl
     by true t es et = eqb-true i j es
     by false true es et = ltb-true j i et
     by false false es et = let ne : ¬ (i ≡ j) = eqb-false i j es in let le : i ≤ j = ltb-false j i et in omega arith
-
-and-self : (p : Bool) → p ≡ (p && p)
-and-self true = refl
-and-self false = refl
-
-and-none : (p : Bool) → false ≡ (p && false)
-and-none true = refl
-and-none false = refl
-
-and-all : (p : Bool) → p ≡ (p && true)
-and-all true = refl
-and-all false = refl
-
-and-other : (p : Bool) → false ≡ (p && not p)
-and-other true = refl
-and-other false = refl
 
 abbrev minus : Op
 minus p q = p && not q

@@ -1,21 +1,21 @@
 -- Where the orders of a set send the pieces, and what follows: the parts of a node are apart. Assumes nothing.
-use mathlib.Core.Logic.{_⊎_, inl, inr}
 use mathlib.Core.Path.{_≡_, sym, ap, _∙_}
 use mathlib.Core.List.{List}
+use mathlib.Core.Logic.{_⊎_, inl, inr}
 use mathlib.Core.Bool.{false≢true}
 use Prim.Native.Nat.{ℕ, zero, suc, _≤_, _<_}
 use native.Mathlib.Omega.{arith}
 use lib.ListN.{length}
 use Rattle.orders.specs.declared.order.Order.{Order}
-use Rattle.orders.specs.Chains.{ChainLaws}
 use Rattle.orders.specs.Orders.{place, standing, place-standing, place-then}
+use Rattle.orders.specs.Chains.{ChainLaws}
 use Rattle.diagrams.specs.declared.Node.{Node}
 use Rattle.diagrams.specs.Moves.{Moves, back}
 use Rattle.diagrams.specs.Table.{at, Exists, x-of, y-of, Sound, NodeOk, In}
-use Rattle.diagrams.proofs.Bools.{or-split}
 use Rattle.diagrams.proofs.Folds.{mem-zero, mem-one, mem-node}
-use Rattle.diagrams.proofs.Numbers.{top-below}
 use Rattle.diagrams.proofs.Groups.{same-sound, move-back}
+use Rattle.diagrams.proofs.Numbers.{top-below}
+use Rattle.diagrams.proofs.Bools.{or-split}
 
 -- o leaves the pieces above x
 abbrev pub Still : ℕ → Order → Type 0

@@ -1,14 +1,14 @@
 -- A table with one node more, and the rule `node`. Assumes nothing.
-use mathlib.Core.List.{List, [], _∷_, _++_}
+use mathlib.Core.Bool.{Bool, true, false, _||_, false≢true, or-false}
 use mathlib.Core.Path.{_≡_, refl, sym, ap₂, _∙_}
-use mathlib.Core.Bool.{Bool, true, false, _||_, _&&_, false≢true, or-false}
+use mathlib.Core.List.{List, [], _∷_, _++_}
 use Prim.Native.Nat.{ℕ, zero, suc, _≤_, _<_}
 use native.Mathlib.Nat.{le-refl}
 use native.Mathlib.Omega.{arith}
 use native.Mathlib.Decide.{decLt}
 use lib.Seq.{getD-append-seam}
-use lib.ListN.{length, getD, length-append, List·getD-append}
 use lib.Dec.{eqb, ltb}
+use lib.ListN.{length, getD, length-append, List·getD-append}
 use borrow.Author.Tests.{eqb-true, eqb-false, eq-eqb, ltb-true, ltb-false}
 use Rattle.orders.specs.declared.order.Order.{Order}
 use Rattle.diagrams.specs.declared.Node.{Node}
@@ -16,6 +16,7 @@ use Rattle.diagrams.specs.Moves.{Moves, back}
 use Rattle.diagrams.specs.Table.{blank, at, Extends, Sound, NodeOk, Same, mem}
 use Rattle.diagrams.specs.Rules.{full, is-node, first-by, first, find, new-node, node-by, node, Asks, NodeSet, Made, Makes}
 use Rattle.diagrams.proofs.Folds.{x-more, level-more, count-more, mem-node, mem-more, mem-zero}
+use Rattle.diagrams.proofs.Bools.{and-is}
 
 pub extends-self : (N : List Node) → Extends N N
 extends-self N = record { longer = le-refl _; kept = λ i l. refl }
@@ -72,15 +73,11 @@ module _ (N : List Node) (a : Node) where
           absurd (new j d record { same-x = sym (t .same-x); same-y = sym (t .same-y); same-lo = sym (t .same-lo); same-hi = sym (t .same-hi) })
       apart-at i j (no h) (no d) l q s = last i h l ∙ sym (last j d q)
 
-and-both : (a b : Bool) → (a && b) ≡ true → (a ≡ true) × (b ≡ true)
-and-both true b h = (refl, h)
-and-both false b h = absurd (false≢true h)
-
 is-node-same : (x y lo hi : ℕ) (a : Node) → is-node x y lo hi a ≡ true → (a .x ≡ x) × (a .y ≡ y) × (a .lo ≡ lo) × (a .hi ≡ hi)
 is-node-same x y lo hi a h =
-    let p = and-both _ _ h in
-    let q = and-both _ _ (p .1) in
-    let r = and-both _ _ (q .1) in
+    let p = and-is _ _ .0 h in
+    let q = and-is _ _ .0 (p .1) in
+    let r = and-is _ _ .0 (q .1) in
     (eqb-true _ _ (p .0), eqb-true _ _ (q .0), eqb-true _ _ (r .0), eqb-true _ _ (r .1))
 
 same-is-node : (x y lo hi : ℕ) (a : Node) → a .x ≡ x → a .y ≡ y → a .lo ≡ lo → a .hi ≡ hi → is-node x y lo hi a ≡ true

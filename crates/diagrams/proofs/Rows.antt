@@ -1,6 +1,6 @@
 -- What a longer table says of a number that was there, and of a task. Assumes nothing.
-use mathlib.Core.List.{List}
 use mathlib.Core.Path.{_≡_, refl, ap, ap₂}
+use mathlib.Core.List.{List}
 use Prim.Native.Nat.{ℕ, zero, suc, _+_, _*_, _<_, max}
 use native.Mathlib.Omega.{arith}
 use Rattle.orders.specs.Dimension.{dimension, dimension-within}

@@ -1,11 +1,11 @@
 -- The sets of numbers, in words of orders. Assumes nothing.
-use mathlib.Core.Logic.{_⊎_, inl, inr, _↔_}
-use mathlib.Core.Bool.{true, _||_, false≢true}
 use mathlib.Core.Path.{_≡_, sym, ap, _∙_}
 use mathlib.Core.List.{List}
+use mathlib.Core.Logic.{_⊎_, inl, inr, _↔_}
+use mathlib.Core.Bool.{true, _||_, false≢true}
 use Prim.Native.Nat.{ℕ, _≤_, _<_}
-use native.Mathlib.Decide.{decLt}
 use native.Mathlib.Omega.{arith}
+use native.Mathlib.Decide.{decLt}
 use Rattle.orders.specs.declared.order.Order.{Order}
 use Rattle.orders.specs.Orders.{place, standing, then, place-out}
 use Rattle.orders.specs.Chains.{ChainLaws}
@@ -13,10 +13,10 @@ use Rattle.diagrams.specs.declared.Node.{Node}
 use Rattle.diagrams.specs.Moves.{Moves, back}
 use Rattle.diagrams.specs.Table.{Exists, x-of, y-of, lo-of, hi-of, Sound, Extends, mem, In}
 use Rattle.diagrams.specs.Theorems.{Stands}
-use Rattle.diagrams.proofs.Bools.{or-split, or-left, or-right, both-ways}
 use Rattle.diagrams.proofs.Folds.{mem-zero, mem-one, mem-more}
 use Rattle.diagrams.proofs.Places.{upto}
 use Rattle.diagrams.proofs.Canon.{some, canon}
+use Rattle.diagrams.proofs.Bools.{or-split, or-left, or-right, both-ways}
 use Rattle.diagrams.proofs.Groups.{same-refl, same-sound, back-move, move-back}
 use Rattle.diagrams.proofs.Tops.{mem-parts, low-if-level, high-at}
 use Rattle.diagrams.proofs.Numbers.{parts}

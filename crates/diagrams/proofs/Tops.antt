@@ -1,14 +1,14 @@
 -- A set's top, from where its orders send the pieces. Assumes nothing.
+use mathlib.Core.Path.{_≡_, ap}
 use mathlib.Core.List.{List}
 use mathlib.Core.Bool.{_||_}
-use mathlib.Core.Path.{_≡_, ap}
 use Prim.Native.Nat.{ℕ, zero, suc, _≤_, _<_}
 use native.Mathlib.Omega.{arith}
 use native.Mathlib.Decide.{decLt}
 use lib.ListN.{length}
 use Rattle.orders.specs.declared.order.Order.{Order}
-use Rattle.orders.specs.Chains.{ChainLaws}
 use Rattle.orders.specs.Orders.{place}
+use Rattle.orders.specs.Chains.{ChainLaws}
 use Rattle.diagrams.specs.declared.Node.{Node}
 use Rattle.diagrams.specs.Moves.{Moves, back}
 use Rattle.diagrams.specs.Level.{level}

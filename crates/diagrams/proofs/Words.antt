@@ -1,41 +1,28 @@
 -- The set of each kind of work, in words of orders. Assumes nothing.
-use mathlib.Core.Logic.{_⊎_, inl, inr, _↔_}
-use mathlib.Core.Bool.{Bool, true, false, not, _||_, _&&_, false≢true}
 use mathlib.Core.Path.{_≡_, refl, sym, ap, _∙_, subst}
+use mathlib.Core.Bool.{true, not}
 use mathlib.Core.List.{List}
+use mathlib.Core.Logic.{_↔_}
 use Prim.Native.Nat.{ℕ}
 use native.Mathlib.Omega.{arith}
 use lib.Dec.{eqb}
 use borrow.Author.Tests.{eqb-true, eq-eqb}
 use Rattle.orders.specs.declared.order.Order.{Order}
 use Rattle.orders.specs.Orders.{place, standing, then, inverse}
-use Rattle.orders.specs.Group.{standing-then, group}
 use Rattle.orders.specs.Chains.{ChainLaws}
+use Rattle.orders.specs.Group.{standing-then, group}
 use Rattle.diagrams.specs.declared.Node.{Node}
 use Rattle.diagrams.specs.declared.Task.{Task}
 use Rattle.diagrams.specs.declared.Task.the-variants.{Join, Meet, Without, Carry, Follow, Pick}
 use Rattle.diagrams.specs.Moves.{Moves}
 use Rattle.diagrams.specs.Table.{Sound, mem, In}
 use Rattle.diagrams.specs.Rules.{done, Made, Makes}
-use Rattle.diagrams.specs.Work.{Valid, Set, task}
-use Rattle.diagrams.specs.Theorems.{Sought}
-use Rattle.diagrams.proofs.Bools.{or-split, or-left, or-right}
+use Rattle.diagrams.specs.Work.{Valid, Set, Sought, task}
 use Rattle.diagrams.proofs.Follows.{followed-is}
 use Rattle.diagrams.proofs.Sets.{in-one}
 use Rattle.diagrams.proofs.Engine.{task-makes}
+use Rattle.diagrams.proofs.Bools.{or-split, or-either, and-is, not-is}
 use Rattle.diagrams.proofs.Groups.{redo}
-
-and-is : (p q : Bool) → ((p && q) ≡ true) ↔ ((p ≡ true) × (q ≡ true))
-and-is true q = (λ h. (refl, h), λ h. h .1)
-and-is false q = (λ h. absurd (false≢true h), λ h. h .0)
-
-not-is : (q : Bool) → (not q ≡ true) ↔ (q ≡ true → ⊥)
-not-is true = (λ h. absurd (false≢true h), λ h. absurd (h refl))
-not-is false = (λ h k. false≢true k, λ h. refl)
-
-or-either : (p q : Bool) → (p ≡ true) ⊎ (q ≡ true) → (p || q) ≡ true
-or-either p q (inl e) = or-left p q e
-or-either p q (inr e) = or-right p q e
 
 module _ (g : Moves) (N : List Node) (S : Sound N) where
   -- the truth table of a set says what its words say

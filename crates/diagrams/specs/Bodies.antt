@@ -1,7 +1,7 @@
 -- The rule of each kind of work. Assumes nothing.
-use mathlib.Core.Bool.{Bool, true, false, cond, _||_, _&&_}
+use mathlib.Core.Bool.{Bool, true, false, cond, _||_}
 use mathlib.Core.List.{List}
-use Prim.Native.Nat.{ℕ, zero, suc, _+_}
+use Prim.Native.Nat.{ℕ}
 use lib.Dec.{eqb, ltb}
 use Rattle.orders.specs.declared.order.Order.{Order}
 use Rattle.diagrams.specs.declared.Node.{Node}
@@ -15,7 +15,7 @@ use Rattle.diagrams.specs.Moves.{Moves, same, back}
 use Rattle.diagrams.specs.Table.{x-of, y-of, lo-of, hi-of, level-of, count-of}
 use Rattle.diagrams.specs.Script.{Script, answer, make, enter}
 
--- the one number, or the two, that a task is on
+-- the first number that a task is on
 abbrev pub first-of : Task → ℕ
 first-of (Join a b) = a
 first-of (Meet a b) = a
@@ -24,6 +24,7 @@ first-of (Carry a h) = a
 first-of (Follow a b) = a
 first-of (Pick a k p) = a
 
+-- the second, or 0 where there is one only
 abbrev pub second-of : Task → ℕ
 second-of (Join a b) = b
 second-of (Meet a b) = b
@@ -40,19 +41,38 @@ row N n = record { x = x-of N n; y = y-of N n; lo = lo-of N n; hi = hi-of N n; o
 unfoldable pub side : ℕ → ℕ → Side
 side p q = cond (eqb p q) Level (cond (ltb q p) Above Below)
 
--- two numbers, with their rows
+-- The shapes that rules are made of.
+-- two tasks, from left to right, and then the node of their answers
+abbrev pub both-script : Task → Task → ℕ → ℕ → Script
+both-script low high x y = enter low (λ r. enter high (λ s. make x y r s answer))
+
+-- a task, and then the node whose low part is its answer
+abbrev pub over-script : Task → ℕ → ℕ → ℕ → Script
+over-script low x y hi = enter low (λ r. make x y r hi answer)
+
+-- a task, and then the node whose high part is its answer, over nothing
+abbrev pub lift-script : Task → ℕ → ℕ → Script
+lift-script high x z = enter high (λ r. make x z 0 r answer)
+
+-- s, as the high part of a node of x and z unless z is x, joined to r
+abbrev pub rest-script : ℕ → ℕ → ℕ → ℕ → Bool → Script
+rest-script x z r s true = enter (Join r s) answer
+rest-script x z r s false = make x z 0 s (λ v. enter (Join r v) answer)
+
+-- The rules of the kinds. Each goes by tests, the first of which that passes answers; what has no such answer is worked.
+-- Two numbers, with their rows.
 module _ (a b : ℕ) (p q : Node) where
-  -- both parts, from left to right, and then their node
+  -- both low parts, then both high parts, then their node
   abbrev pub both : (ℕ → ℕ → Task) → Script
-  both task = enter (task (p .lo) (q .lo)) (λ r. enter (task (p .hi) (q .hi)) (λ s. make (p .x) (p .y) r s answer))
+  both task = both-script (task (p .lo) (q .lo)) (task (p .hi) (q .hi)) (p .x) (p .y)
 
   -- the tests: a is 0; b is 0 or a
   abbrev pub join-body : Bool → Bool → Side → Script
   join-body true t w = answer b
   join-body false true w = answer a
   join-body false false Level = both Join
-  join-body false false Above = enter (Join (p .lo) b) (λ r. make (p .x) (p .y) r (p .hi) answer)
-  join-body false false Below = enter (Join a (q .lo)) (λ r. make (q .x) (q .y) r (q .hi) answer)
+  join-body false false Above = over-script (Join (p .lo) b) (p .x) (p .y) (p .hi)
+  join-body false false Below = over-script (Join a (q .lo)) (q .x) (q .y) (q .hi)
 
   -- the tests: a or b is 0; a is b
   abbrev pub meet-body : Bool → Bool → Side → Script
@@ -67,37 +87,21 @@ module _ (a b : ℕ) (p q : Node) where
   without-body true t w = answer 0
   without-body false true w = answer a
   without-body false false Level = both Without
-  without-body false false Above = enter (Without (p .lo) b) (λ r. make (p .x) (p .y) r (p .hi) answer)
+  without-body false false Above = over-script (Without (p .lo) b) (p .x) (p .y) (p .hi)
   without-body false false Below = enter (Without a (q .lo)) answer
 
--- a number with its row p, a piece and a place. The tests: a is 0; a is 1; the piece is the place
+-- A number with its row p, a piece k, a place z, and the place that the row's move takes to z. The tests: a is 0; a is 1; the piece is the place
 abbrev pub pick-body : Node → ℕ → ℕ → ℕ → ℕ → Bool → Bool → Bool → Script
 pick-body p a k z from true t u = answer a
 pick-body p a k z from false true true = answer 1
 pick-body p a k z from false true false = answer 0
-pick-body p a k z from false false u = enter (Pick (p .lo) k z) (λ r. enter (Pick (p .hi) k from) (λ s. make (p .x) (p .y) r s answer))
-
--- The shapes that the rules are made of, as the code has them.
-abbrev pub both-script : Task → Task → ℕ → ℕ → Script
-both-script low high x y = enter low (λ r. enter high (λ s. make x y r s answer))
-
-abbrev pub over-script : Task → ℕ → ℕ → ℕ → Script
-over-script low x y hi = enter low (λ r. make x y r hi answer)
-
--- the answer as the high part of a node of x and z
-abbrev pub lift-script : Task → ℕ → ℕ → Script
-lift-script low x z = enter low (λ r. make x z 0 r answer)
-
--- the high part s, as a node of x and z unless z is x, joined to r
-abbrev pub rest-script : ℕ → ℕ → ℕ → ℕ → Bool → Script
-rest-script x z r s true = enter (Join r s) answer
-rest-script x z r s false = make x z 0 s (λ v. enter (Join r v) answer)
+pick-body p a k z from false false u = both-script (Pick (p .lo) k z) (Pick (p .hi) k from) (p .x) (p .y)
 
 module _ (g : Moves) where
   -- the high part hi carried by k, which takes x to z, and then joined to r: as a node of x and z, unless z is x
   abbrev pub high-body : ℕ → ℕ → ℕ → Order → ℕ → Bool → Script
-  high-body x z hi k r true = enter (Carry hi k) (λ s. enter (Join r s) answer)
-  high-body x z hi k r false = enter (Carry hi (back g x z k)) (λ s. make x z 0 s (λ v. enter (Join r v) answer))
+  high-body x z hi k r true = enter (Carry hi k) (λ s. rest-script x z r s true)
+  high-body x z hi k r false = enter (Carry hi (back g x z k)) (λ s. rest-script x z r s false)
 
   -- h after the move of the row p
   abbrev pub moved-by : Node → Order → Order
@@ -108,7 +112,7 @@ module _ (g : Moves) where
   carry-body p a h true t u = answer 0
   carry-body p a h false true u = answer a
   carry-body p a h false false true =
-      enter (Carry a (back g (dimension h) (place h (dimension h)) h)) (λ r. make (dimension h) (place h (dimension h)) 0 r answer)
+      lift-script (Carry a (back g (dimension h) (place h (dimension h)) h)) (dimension h) (place h (dimension h))
   carry-body p a h false false false =
       enter (Carry (p .lo) h) (λ r. high-body (p .x) (place (moved-by p h) (p .x)) (p .hi) (moved-by p h) r (eqb (place (moved-by p h) (p .x)) (p .x)))
 
@@ -132,5 +136,6 @@ module _ (g : Moves) where
   body-by (Follow a b) p q i j = follow-body q a b (eqb a 0 || eqb b 0) (eqb b 1)
   body-by (Pick a k z) p q i j = pick-body p a k z (from-of p z) (eqb a 0) (eqb a 1) (eqb k z)
 
+  -- the rule of a task on a table
   unfoldable pub body : List Node → Task → Script
   body N t = body-by t (row N (first-of t)) (row N (second-of t)) (level-of N (first-of t)) (level-of N (second-of t))

@@ -24,6 +24,7 @@ module _ (g : Moves) where
   abbrev pub moved : Node → Order → Order
   moved a o = then o (g (a .x) (a .y))
 
+  -- the orders of a node, from those of its parts
   abbrev pub list-of-node : Node → List Order → List Order → List Order
   list-of-node a low high = low ++ map (moved a) high
 

@@ -39,9 +39,11 @@ levels = (2, (1, 1)) ∷ (3, (2, 2)) ∷ (3, (1, 3)) ∷ (16, (15, 106)) ∷ (16
 abbrev pub written : Order × List ℕ → Type 0
 written w = row (w .0) ≡ w .1
 
+-- (2,1), which is (2,1,3) too
 abbrev pub order-21 : Order
 order-21 = swap 2 1
 
+-- (3,1,2)
 abbrev pub order-312 : Order
 order-312 = then (swap 2 1) (swap 3 2)
 
@@ -84,6 +86,7 @@ pub record Worked : Type 0 where
   pub comes : Outcome
   pub rows : List (List ℕ)
 
+-- the orders of an answer
 abbrev pub rows-of : Outcome → List (List ℕ)
 rows-of (done N r n) = map row (orders-of swap N r)
 rows-of (full N) = []

@@ -1,12 +1,9 @@
 -- What is answered with no work, and the triple that a task is remembered by. Assumes nothing.
-use mathlib.Core.Path.{_≡_}
-use mathlib.Core.Bool.{Bool, true, false, cond, _||_}
-use mathlib.Core.List.{List}
+use mathlib.Core.Bool.{cond, _||_}
 use Prim.Native.Nat.{ℕ, _+_, _*_}
 use lib.Dec.{eqb}
 use Rattle.std.specs.declared.option.Option.{Option}
 use Rattle.std.specs.declared.option.Option.the-variants.{Some, None}
-use Rattle.orders.specs.declared.order.Order.{Order}
 use Rattle.diagrams.specs.declared.Task.{Task}
 use Rattle.diagrams.specs.declared.Task.the-variants.{Join, Meet, Without, Carry, Follow, Pick}
 use Rattle.orders.specs.Orders.{standing}

@@ -1,28 +1,31 @@
--- The rules that make sets in a table, as the program has them, and what each has to mean. Assumes nothing.
+-- The rule `node`, which finds or makes a node, and what it has to mean. Assumes nothing.
 use mathlib.Core.Path.{_≡_}
 use mathlib.Core.Bool.{Bool, true, false, _||_, _&&_}
 use mathlib.Core.List.{List, [], _∷_, _++_}
-use Prim.Native.Nat.{ℕ, zero, suc, _+_, _≤_, _<_}
+use Prim.Native.Nat.{ℕ, suc, _+_, _≤_, _<_}
 use lib.Dec.{eqb, ltb}
 use lib.ListN.{length}
 use Rattle.diagrams.specs.declared.Node.{Node}
 use Rattle.orders.specs.declared.order.Order.{Order}
 use Rattle.diagrams.specs.Moves.{Moves, back}
 use Rattle.diagrams.specs.Level.{level}
-use Rattle.diagrams.specs.Table.{Exists, Extends, Sound, x-of, y-of, lo-of, hi-of, level-of, count-of, mem}
+use Rattle.diagrams.specs.Table.{Exists, Extends, Sound, x-of, level-of, count-of, mem}
 
 -- What a piece of work comes to: the table after it, its number and the entries so far; or no room, and the table at that point.
 pub data Outcome : Type 0 where
   done : List Node → ℕ → ℕ → Outcome
   full : List Node → Outcome
 
+-- and then: what comes after, where there was room
 abbrev pub after : Outcome → (List Node → ℕ → ℕ → Outcome) → Outcome
 after (done N r n) f = f N r n
 after (full N) f = full N
 
+-- whether a node has these four values
 abbrev pub is-node : ℕ → ℕ → ℕ → ℕ → Node → Bool
 is-node x y lo hi a = eqb (a .x) x && (eqb (a .y) y && (eqb (a .lo) lo && eqb (a .hi) hi))
 
+-- by whether the first element passes
 abbrev pub first-by : Bool → ℕ → ℕ
 first-by true k = 0
 first-by false k = suc k
@@ -32,9 +35,11 @@ unfoldable pub first : {A : Type 0} → (A → Bool) → List A → ℕ
 first p [] = 0
 first p (a ∷ l) = first-by (p a) (first p l)
 
+-- the place of the first node with these four values, or the table's length
 abbrev pub find : List Node → ℕ → ℕ → ℕ → ℕ → ℕ
 find N x y lo hi = first (is-node x y lo hi) N
 
+-- the node with these four values, and the sum of its parts' counts
 abbrev pub new-node : List Node → ℕ → ℕ → ℕ → ℕ → Node
 new-node N x y lo hi = record { x = x; y = y; lo = lo; hi = hi; orders = count-of N lo + count-of N hi }
 
@@ -77,6 +82,7 @@ module _ (g : Moves) where
     pub there : Exists M r
     pub means : (o : Order) → mem g M r o ≡ P o
 
+  -- it made the set P, or found no room
   abbrev pub Makes : ℕ → List Node → (Order → Bool) → Outcome → Type 0
   Makes cap N P (done M r n) = Made N P M r
   Makes cap N P (full M) = Full cap N M

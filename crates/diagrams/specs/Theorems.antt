@@ -9,14 +9,14 @@ use Rattle.orders.specs.Orders.{place, standing, then}
 use Rattle.orders.specs.Chains.{Pair, ChainLaws}
 use Rattle.diagrams.specs.declared.Node.{Node}
 use Rattle.diagrams.specs.declared.Task.{Task}
-use Rattle.diagrams.specs.declared.Task.the-variants.{Join, Meet, Without, Carry, Follow, Pick}
+use Rattle.diagrams.specs.declared.Task.the-variants.{Carry}
 use Rattle.diagrams.specs.Moves.{Moves}
 use Rattle.diagrams.specs.Level.{level}
 use Rattle.diagrams.specs.Table.{Exists, Sound, Extends, x-of, y-of, lo-of, hi-of, count-of, In}
 use Rattle.diagrams.specs.Rules.{done, Makes}
 use Rattle.diagrams.specs.Script.{go, deep}
 use Rattle.diagrams.specs.Bodies.{first-of, body}
-use Rattle.diagrams.specs.Work.{Valid, Set, measure, depth, task}
+use Rattle.diagrams.specs.Work.{Valid, Set, Sought, measure, depth, task}
 use Rattle.diagrams.specs.Outright.{answered, outright, kind-of, right-of}
 use Rattle.diagrams.specs.Counting.{Has, Distinct, orders-of, factorial}
 
@@ -51,6 +51,7 @@ pub record Stands (g : Moves) (N : List Node) : Type 0 where
   -- every order of a set leaves the pieces above its x, and sends x to its y or above
   pub leaves : (n : ℕ) → Exists N n → (o : Order) → In g N n o → ((k : ℕ) → x-of N n < k → place o k ≡ k) × (y-of N n ≤ place o (x-of N n))
 
+-- That, of every chain and sound table.
 abbrev pub SetsStand : Type 0
 SetsStand = Always Stands
 
@@ -68,6 +69,7 @@ pub record Counted (g : Moves) (N : List Node) (n : ℕ) : Type 0 where
   pub once : Distinct (orders-of g N n)
   pub exact : (o : Order) → Has (orders-of g N n) o ↔ In g N n o
 
+-- That, of every number.
 abbrev pub CountsStand : Type 0
 CountsStand = Always (λ g N. (n : ℕ) → Exists N n → Counted g N n)
 
@@ -90,28 +92,15 @@ pub record Works (g : Moves) (cap : ℕ) (N : List Node) (t : Task) : Type 0 whe
   -- it is outright just where its body is an answer
   pub outright-is : answered (body g N t) ≡ outright t
 
+-- That, of every task.
 abbrev pub WorkStands : Type 0
 WorkStands = Always (λ g N. (cap : ℕ) (t : Task) → Valid N t → Works g cap N t)
-
--- The orders that a task is to find, in words of orders.
-abbrev pub Sought : Moves → List Node → Task → Order → Type 0
--- those of a or b
-Sought g N (Join a b) o = (In g N a o) ⊎ (In g N b o)
--- those of a and b
-Sought g N (Meet a b) o = In g N a o × In g N b o
--- those of a that b has not
-Sought g N (Without a b) o = In g N a o × (In g N b o → ⊥)
--- all αh, with α of a
-Sought g N (Carry a h) o = (α : Order) × (In g N a α × (o ≡ then α h))
--- all αβ, with α of a and β of b
-Sought g N (Follow a b) o = (α : Order) × ((β : Order) × (In g N a α × (In g N b β × (o ≡ then α β))))
--- those of a with piece k in place p
-Sought g N (Pick a k p) o = In g N a o × (place o k ≡ p)
 
 -- Whatever the room, the answer of the task t has just the orders P.
 abbrev pub Finds : Moves → List Node → Task → (Order → Type 0) → Type 0
 Finds g N t P = (cap : ℕ) (M : List Node) (r n : ℕ) → task g cap N t ≡ done M r n → (o : Order) → In g M r o ↔ P o
 
+-- The answer of every task has just the orders that it is to find.
 abbrev pub AnswersStand : Type 0
 AnswersStand = Always (λ g N. (t : Task) → Valid N t → Finds g N t (Sought g N t))
 

@@ -3,6 +3,7 @@ mod heights;
 mod theorems;
 
 pub use heights::level;
+use orders::Order;
 pub use theorems::answers_stand;
 pub use theorems::bounds_stand;
 pub use theorems::canonicity_stands;
@@ -14,7 +15,6 @@ pub use theorems::sets_stand;
 pub use theorems::single_stands;
 pub use theorems::triples_stand;
 pub use theorems::work_stands;
-use orders::Order;
 
 // A node of the table. Number 0 is the empty set, 1 the set of the standing order alone, and i + 2 the node at i.
 #[derive(Clone, Copy)]

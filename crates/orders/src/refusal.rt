@@ -8,6 +8,8 @@ pub enum Refusal {
     BadRow,
     // 7: there is no room for a node, or for a list's record
     NoRoom,
+    // 12: a number is not below the count, or a list's place is not filled
+    PastEnd,
 }
 
 impl Refusal {
@@ -18,6 +20,7 @@ impl Refusal {
         match self {
             Refusal::BadRow => 3,
             Refusal::NoRoom => 7,
+            Refusal::PastEnd => 12,
         }
     }
 }

@@ -3,10 +3,12 @@ use mathlib.Core.Path.{_≡_, refl, sym, ap, _∙_}
 use mathlib.Core.List.{List, [], _∷_, _++_}
 use Prim.Native.Nat.{ℕ, zero, suc, _+_, _-_, _<_, _≤_}
 use native.Mathlib.Omega.{arith}
+use native.Mathlib.Decide.{decLt}
 use native.Mathlib.Numerals.{add-one}
 use lib.ListN.{length, take, set}
 use lib.Seq.{getD-take, take-suc-set, length-take-le}
 use borrow.Author.Tests.{eq-eqb, ne-eqb, lt-ltb, le-ltb}
+use Rattle.orders.specs.Chains.{Pair}
 use Rattle.diagrams.specs.declared.Node.{Node}
 use Rattle.diagrams.specs.declared.Side.the-variants.{Level, Above, Below}
 use Rattle.diagrams.specs.Level.{level}
@@ -14,6 +16,7 @@ use Rattle.diagrams.specs.Table.{at, blank, x-of, y-of, lo-of, hi-of, level-of,
 use Rattle.diagrams.specs.Rules.{Asks}
 use Rattle.diagrams.specs.Bodies.{row, side}
 use Rattle.diagrams.proofs.Props.{sound-out}
+use Rattle.diagrams.proofs.Numbers.{x-small, level-small, parts}
 use Rattle.tables.specs.declared.table.Table.{Table}
 use Rattle.tables.specs.Rows.{rows}
 
@@ -62,19 +65,31 @@ level-row N zero = refl
 level-row N (suc zero) = refl
 level-row N (suc (suc i)) = refl
 
-pub level-read : (N : List Node) (n : ℕ) (p : Node) → p ≡ row N n → level (p .x) (p .y) ≡ level-of N n
+level-read : (N : List Node) (n : ℕ) (p : Node) → p ≡ row N n → level (p .x) (p .y) ≡ level-of N n
 level-read N n p e = ap (λ (q : Node). level (q .x) (q .y)) e ∙ sym (level-row N n)
 
+-- the level that the table of levels has for a row
+pub level-kept : (N : List Node) (n : ℕ) (p : Node) (r : ℕ) → (Pair (p .x) (p .y) → r ≡ level (p .x) (p .y)) → ((Pair (p .x) (p .y) → ⊥) → r ≡ 0)
+    → Sound N → Exists N n → p ≡ row N n → r ≡ level-of N n
+level-kept N n p r pair other S e is = by (decLt n 2)
+  where
+    by : Dec (n < 2) → r ≡ level-of N n
+    by (yes h) = other (λ q. omega (arith, q, ap (λ (a : Node). a .x) is, x-small N n h)) ∙ sym (level-small N n h)
+    by (no h) =
+        let k = parts N S n e (omega arith) in
+        pair (omega (arith, k .y-min, ap (λ (a : Node). a .y) is), omega (arith, k .y-below, ap (λ (a : Node). a .x) is, ap (λ (a : Node). a .y) is), omega (arith, k .x-max, ap (λ (a : Node). a .x) is))
+        ∙ level-read N n p is
+
 -- what `node` asks for, by the rows that were read
-pub asks-read : (N : List Node) (x y lo hi : ℕ) (p q : Node) → p ≡ row N lo → q ≡ row N hi → x ≤ 16 → 1 ≤ y → y < x
-    → Exists N lo → Exists N hi → level (p .x) (p .y) < level x y → q .x < x → Asks N x y lo hi
-asks-read N x y lo hi p q low high x-max y-min y-below lo-there hi-there deep small = record {
+pub asks-read : (N : List Node) (x y lo hi : ℕ) (q : Node) → q ≡ row N hi → x ≤ 16 → 1 ≤ y → y < x
+    → Exists N lo → Exists N hi → level-of N lo < level x y → q .x < x → Asks N x y lo hi
+asks-read N x y lo hi q high x-max y-min y-below lo-there hi-there deep small = record {
   x-max = x-max;
   y-min = y-min;
   y-below = y-below;
   lo-there = lo-there;
   hi-there = hi-there;
-  lo-level = rw (level-read N lo p low) at deep;
+  lo-level = deep;
   hi-x = rw high at small;
 }
 

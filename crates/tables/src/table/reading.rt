@@ -1,18 +1,19 @@
 // The table with no node, and what is read off a table.
 ghost use mathlib.Core.Path.{_≡_};
-ghost use mathlib.Core.List.{[]};
-ghost use Prim.Native.Nat.{_≤_};
+ghost use mathlib.Core.List.{List, []};
+ghost use Prim.Native.Nat.{ℕ, _≤_};
 ghost use lib.ListN.{length};
 ghost use Rattle.std.specs.Orderings.{Decides};
-ghost use Rattle.diagrams.specs.Level.{level};
-ghost use Rattle.diagrams.specs.Table.{Exists, level-of};
-ghost use Rattle.diagrams.specs.Bodies.{row, side};
+ghost use Rattle.diagrams.specs.declared.Node.{Node};
+ghost use Rattle.diagrams.specs.Table.{Exists, Sound, level-of};
+ghost use Rattle.diagrams.specs.Bodies.{row as rowOf, side};
 ghost use Rattle.tables.specs.Rows.{rows};
 use super::BUCKETS;
 use super::ROOM;
 use super::Table;
 use diagrams::Node;
 use diagrams::Side;
+use diagrams::level;
 
 // The row of the number 0, the empty set.
 const ZERO: Node = Node {
@@ -32,12 +33,11 @@ const ONE: Node = Node {
     orders: 1,
 };
 
-// The level of a row: 0 for the numbers 0 and 1.
-fn height(row: Node) -> usize
-    ensures { λ r. ⌜ r ≡ level (row .x) (row .y) ⌝ }
+// The level of a number, of which this is the row: 0 for the numbers 0 and 1.
+fn height(row: Node) -> u8
+    ensures { λ r. ⌜ ((N : List Node) (n : ℕ) → Sound N → Exists N n → row ≡ rowOf N n → r ≡ level-of N n) ⌝ }
 {
-    let x = row.x as usize;
-    x.saturating_sub(1) * x.saturating_sub(2) / 2 + x.saturating_sub(row.y as usize)
+    level(row.x, row.y)
 }
 
 impl Table {
@@ -71,7 +71,7 @@ impl Table {
     // The row of a number: its node, or what stands for one at 0 and 1.
     pub fn get(&self, number: u32) -> Node
         requires { ⌜ Exists (rows (now self)) number ⌝ }
-        ensures { λ r. ⌜ r ≡ row (rows (now (self .entry))) number ⌝ }
+        ensures { λ r. ⌜ r ≡ rowOf (rows (now (self .entry))) number ⌝ }
     {
         match number {
             0 => ZERO,

@@ -1,6 +1,5 @@
-use Rattle.diagrams.specs.Level.{level}
+use Rattle.tables.proofs.Rows.{level-kept}
 use Rattle.tables.proofs.table.reading.height.Needs as need
 
 pub returns : need.returns
-unfolding level
-returns c = cc
+returns c N n S e is = level-kept N n _ _ (c .level .ensures .pair) (c .level .ensures .other) S e is
