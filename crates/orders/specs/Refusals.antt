@@ -1,9 +1,15 @@
 -- The number of each refusal. Assumes nothing.
 use Prim.Native.Nat.{ℕ}
 use Rattle.orders.specs.declared.refusal.Refusal.{Refusal}
-use Rattle.orders.specs.declared.refusal.Refusal.the-variants.{BadRow, NoRoom, PastEnd}
+use Rattle.orders.specs.declared.refusal.Refusal.the-variants.{BadPieces, BadCapacity, BadRow, OtherSeason, NoSuchNumber, OutOfRange, NoRoom, PastEnd, BadNode}
 
 abbrev pub number : Refusal → ℕ
+number BadPieces = 1
+number BadCapacity = 2
 number BadRow = 3
+number OtherSeason = 4
+number NoSuchNumber = 5
+number OutOfRange = 6
 number NoRoom = 7
 number PastEnd = 12
+number BadNode = 16

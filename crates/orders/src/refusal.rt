@@ -4,12 +4,24 @@ ghost use Rattle.orders.specs.Refusals.{number};
 
 #[derive(Clone, Copy, PartialEq, Eq, Debug)]
 pub enum Refusal {
+    // 1: the pieces are not 2 to 16
+    BadPieces,
+    // 2: the capacity is not 1 to 2,046
+    BadCapacity,
     // 3: a row is not 1 to 16 long, or has not each number from 1 to its length exactly once
     BadRow,
+    // 4: the handle's season is not the store's
+    OtherSeason,
+    // 5: the handle's number does not exist
+    NoSuchNumber,
+    // 6: a dimension, a piece or a place is not within the store's pieces
+    OutOfRange,
     // 7: there is no room for a node, or for a list's record
     NoRoom,
     // 12: a number is not below the count, or a list's place is not filled
     PastEnd,
+    // 16: the values are not those of a node
+    BadNode,
 }
 
 impl Refusal {
@@ -18,9 +30,15 @@ impl Refusal {
         ensures { λ r. ⌜ r ≡ number self ⌝ }
     {
         match self {
+            Refusal::BadPieces => 1,
+            Refusal::BadCapacity => 2,
             Refusal::BadRow => 3,
+            Refusal::OtherSeason => 4,
+            Refusal::NoSuchNumber => 5,
+            Refusal::OutOfRange => 6,
             Refusal::NoRoom => 7,
             Refusal::PastEnd => 12,
+            Refusal::BadNode => 16,
         }
     }
 }

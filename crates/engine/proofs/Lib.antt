@@ -1,0 +1,5 @@
+mod Tests
+mod Readings
+mod Keeping
+mod Along
+mod Solving

@@ -1,0 +1,5 @@
+pub mod Rooms
+pub mod Triples
+pub mod Plans
+pub mod Kept
+pub mod Answers
