@@ -35,16 +35,16 @@ module _ (g : Moves) (cap : ℕ) (N : List Node) (rc : Recalls) where
     pub kept-grown : ChainLaws g → (M : List Node) → Sound N → Sound M → Extends N M → Kept g cap M rc
     kept-grown laws M S T X = record {
       right = λ k a b r e.
-        let w = kept .right k a b r e in
-        record {
-          of = w .of;
-          kind = w .kind;
-          left = w .left;
-          right = w .right;
-          valid = still-valid N M (w .of) X (w .valid);
-          entries = w .entries;
-          answer = task-stable g laws cap N (w .of) S (w .valid) M r (w .entries) T X (w .answer);
-        };
+          let w = kept .right k a b r e in
+          record {
+            of = w .of;
+            kind = w .kind;
+            left = w .left;
+            right = w .right;
+            valid = still-valid N M (w .of) X (w .valid);
+            entries = w .entries;
+            answer = task-stable g laws cap N (w .of) S (w .valid) M r (w .entries) T X (w .answer);
+          };
     }
 
     -- one more pair, which is right
@@ -54,21 +54,21 @@ module _ (g : Moves) (cap : ℕ) (N : List Node) (rc : Recalls) where
       here-right k a b s e ek ea eb =
           let here : after (kind-of u) (first-of u) (right-of u) ≡ Some s = cc in
           let es : r ≡ s =
-            ⊎-elim (λ (f : after (kind-of u) (first-of u) (right-of u) ≡ Some r). let z : r ≡ s = cc in z)
-            (λ (f : after (kind-of u) (first-of u) (right-of u) ≡ None). absurd (never _ s here f)) (told .here)
+          ⊎-elim (λ (f : after (kind-of u) (first-of u) (right-of u) ≡ Some r). let z : r ≡ s = cc in z)
+          (λ (f : after (kind-of u) (first-of u) (right-of u) ≡ None). absurd (never _ s here f)) (told .here)
           in
           record { of = u; kind = sym ek; left = sym ea; right = sym eb; valid = valid; entries = n; answer = is ∙ ap (λ v. done N v n) es }
 
       other-right : (k a b s : ℕ) → after k a b ≡ Some s → ((k ≡ kind-of u) × (a ≡ first-of u) × (b ≡ right-of u) → ⊥) → Right g cap N k a b s
       other-right k a b s e ne = ⊎-elim
-        (λ f. kept .right k a b s (sym f ∙ e))
-        (λ (f : after k a b ≡ None). absurd (never _ s e f))
-        (told .elsewhere k a b ne)
+          (λ f. kept .right k a b s (sym f ∙ e))
+          (λ (f : after k a b ≡ None). absurd (never _ s e f))
+          (told .elsewhere k a b ne)
 
       pub kept-told : Kept g cap N after
       kept-told = record {
         right = λ k a b s e.
-          ⊎-elim (λ ek. ⊎-elim (λ ea. ⊎-elim (λ eb. here-right k a b s e ek ea eb)
+            ⊎-elim (λ ek. ⊎-elim (λ ea. ⊎-elim (λ eb. here-right k a b s e ek ea eb)
             (λ ne. other-right k a b s e (λ z. ne (z .2))) (cases-eq b (right-of u)))
             (λ ne. other-right k a b s e (λ z. ne (z .1))) (cases-eq a (first-of u)))
             (λ ne. other-right k a b s e (λ z. ne (z .0))) (cases-eq k (kind-of u));

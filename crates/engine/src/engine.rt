@@ -125,14 +125,24 @@ impl<G: Chain, C: Cache> Engine<G, C> {
             Rest::Move(task, order) => {
                 let high = self.solve(room, task)?;
                 let moved = self.solve(room, Task::Carry(high.number, order))?;
-                let entries = low.entries.saturating_add(high.entries).saturating_add(moved.entries);
+                let entries = low.entries
+                    .saturating_add(high.entries)
+                    .saturating_add(moved.entries);
                 self.joined(room, low.number, moved.number, entries)
             }
         }
     }
 
     // The last step of a rule that ends in a node, after so many entries.
-    fn made(&mut self, room: Room, x: u8, y: u8, lo: u32, hi: u32, entries: u64) -> Result<Found, Refusal>
+    fn made(
+        &mut self,
+        room: Room,
+        x: u8,
+        y: u8,
+        lo: u32,
+        hi: u32,
+        entries: u64,
+    ) -> Result<Found, Refusal>
         requires asks { ⌜ Asks (rows (now self .table)) x y lo hi ⌝ }
         requires kept { ⌜ Kept table (room .nodes) (rows (now self .table)) (recalls (now self .cache)) ⌝ }
         ensures kept { λ _. ⌜ Kept table (room .nodes) (rows (now (self .exit) .table)) (recalls (now (self .exit) .cache)) ⌝ }

@@ -10,10 +10,15 @@ use orders::Order;
 use orders::OrderPartialEq;
 
 const JOIN: u8 = 1;
+
 const MEET: u8 = 2;
+
 const WITHOUT: u8 = 3;
+
 const CARRY: u8 = 4;
+
 const FOLLOW: u8 = 5;
+
 const PICK: u8 = 6;
 
 // The first answer whose test passes.

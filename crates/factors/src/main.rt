@@ -13,7 +13,12 @@ use std::io::Read;
 use text::described;
 
 // One line of the account: the order's dimension and factors, or why it is refused.
-fn put_line(heap: Global, text: &mut String, tally: &mut Tally, line: &[u8]) -> Result<(), AllocError> {
+fn put_line(
+    heap: Global,
+    text: &mut String,
+    tally: &mut Tally,
+    line: &[u8],
+) -> Result<(), AllocError> {
     let told = match order_in(line) {
         Ok(order) => {
             let number = tally.accept();
@@ -68,7 +73,9 @@ mod tests {
     #[test]
     fn a_last_line_without_an_end_counts(rt: LibcRuntime) -> Result<(), Fail> {
         let text = account_of(rt.alloc(), b"2 1")?;
-        check(text.as_str() == "1: dimension 2; swaps (2,1); rotations (2,1)\n1 orders, 0 refused\n")
+        check(
+            text.as_str() == "1: dimension 2; swaps (2,1); rotations (2,1)\n1 orders, 0 refused\n",
+        )
     }
 
     #[test]

@@ -55,5 +55,8 @@ pub fn described(heap: Global, order: Order) -> Result<String, AllocError>
     let dimension = order.dimension();
     let swaps = factor_text::<SwapChain>(heap, order)?;
     let rotations = factor_text::<RotationChain>(heap, order)?;
-    format!(heap, "dimension {dimension}; swaps{swaps}; rotations{rotations}")
+    format!(
+        heap,
+        "dimension {dimension}; swaps{swaps}; rotations{rotations}"
+    )
 }

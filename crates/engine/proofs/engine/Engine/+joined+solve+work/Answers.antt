@@ -28,14 +28,14 @@ pub joined-returns-in-Break-found : need.joined-returns-in-Break-found
 joined-returns-in-Break-found g t c = record {
   kept = c .solve .ensures .kept;
   rule = λ n k. task-refused (moves g) (c .args .room .nodes) (blank g) (rows (c .args .self .now .table)) (Join (c .args .a) (c .args .b)) (c .solve .last .self .table) (c .args .entries) n k
-    (c .in-Break-found .field-0 .0) (c .in-Break-found .ensures tt .rule) (c .from-residual .result) (c .from-residual .ensures .1);
+      (c .in-Break-found .field-0 .0) (c .in-Break-found .ensures tt .rule) (c .from-residual .result) (c .from-residual .ensures .1);
 }
 
 pub joined-returns : need.joined-returns
 joined-returns g t c = record {
   kept = c .solve .ensures .kept;
   rule = λ n k. task-answered (moves g) (c .args .room .nodes) (blank g) (rows (c .args .self .now .table)) (Join (c .args .a) (c .args .b)) (c .solve .last .self .table) (c .args .entries) n k
-    (c .in-Continue-found .found) (c .in-Continue-found .ensures tt .rule) (c .saturating-add .ensures);
+      (c .in-Continue-found .found) (c .in-Continue-found .ensures tt .rule) (c .saturating-add .ensures);
 }
 
 pub solve-returns-in-Some : need.solve-returns-in-Some
@@ -55,7 +55,7 @@ solve-returns-in-Some-ask g t c =
     record {
       kept = c .pre .kept;
       rule = solved-known (moves g) (laws g) (c .args .room .nodes) (blank g) (c .args .self .now .table) (c .args .task) (c .pre .valid) rc (c .pre .kept) (c .in-Some-ask .number) e
-        (λ b. b (c .args .self .now .cache) _ _ _);
+          (λ b. b (c .args .self .now .cache) _ _ _);
       told = λ _ _. e;
       once = once-one _ (c .in-Some-ask .number);
     }
@@ -66,7 +66,7 @@ solve-returns-in-Break-found g t c =
     record {
       kept = c .work .ensures .kept;
       rule = refused-worked (moves g) (laws g) (c .args .room .nodes) (blank g) (c .args .self .now .table) (c .args .task) (c .pre .valid) (c .work .last .self .table)
-        (c .in-Break-found .field-0 .0) (c .in-Break-found .ensures tt .rule) (c .from-residual .result) (c .from-residual .ensures .1);
+          (c .in-Break-found .field-0 .0) (c .in-Break-found .ensures tt .rule) (c .from-residual .result) (c .from-residual .ensures .1);
       told = made-from-err _ _ (c .from-residual .ensures .0);
       once = once-none _ (asked (c .args .task) rc (c .key-triple .ensures) (c .in-rest-ask .ensures tt));
     }
@@ -96,55 +96,55 @@ pub work-returns-in-Break-low : need.work-returns-in-Break-low
 work-returns-in-Break-low g t c = record {
   kept = c .solve .ensures .kept;
   rule = closed (moves g) (laws g) (c .args .room .nodes) (blank g) (c .args .self .now .table) (c .args .task) (c .plan-plan .result) (c .pre .valid) (c .plan-plan .ensures)
-    (c .solve .last .self .table) (c .in-Break-low .field-0 .0) (c .in-Break-low .ensures tt .rule) (c .from-residual .result) (c .from-residual .ensures .1);
+      (c .solve .last .self .table) (c .in-Break-low .field-0 .0) (c .in-Break-low .ensures tt .rule) (c .from-residual .result) (c .from-residual .ensures .1);
 }
 
 pub work-returns-in-Pass : need.work-returns-in-Pass
 work-returns-in-Pass g t c =
     let a = opened (moves g) (laws g) (c .args .room .nodes) (blank g) (c .args .self .now .table) (c .args .task) (c .plan-plan .result) (c .pre .valid) (c .plan-plan .ensures)
-      (c .solve .last .self .table) (c .in-Continue-low .low) (c .in-Continue-low .ensures tt .rule) (c .in-Pass .is)
+    (c .solve .last .self .table) (c .in-Continue-low .low) (c .in-Continue-low .ensures tt .rule) (c .in-Pass .is)
     in
     record { kept = c .solve .ensures .kept; rule = ended a }
 
 pub work-made-requires : need.work-made-requires
 work-made-requires g t c κs =
     let a = opened (moves g) (laws g) (c .args .room .nodes) (blank g) (c .args .self .now .table) (c .args .task) (c .plan-plan .result) (c .pre .valid) (c .plan-plan .ensures)
-      (c .solve .last .self .table) (c .in-Continue-low .low) (c .in-Continue-low .ensures tt .rule) (c .in-Over .is)
+    (c .solve .last .self .table) (c .in-Continue-low .low) (c .in-Continue-low .ensures tt .rule) (c .in-Over .is)
     in
     record { asks = a .meets .0; kept = c .solve .ensures .kept }
 
 pub work-returns-in-Over : need.work-returns-in-Over
 work-returns-in-Over g t c =
     let a = opened (moves g) (laws g) (c .args .room .nodes) (blank g) (c .args .self .now .table) (c .args .task) (c .plan-plan .result) (c .pre .valid) (c .plan-plan .ensures)
-      (c .solve .last .self .table) (c .in-Continue-low .low) (c .in-Continue-low .ensures tt .rule) (c .in-Over .is)
+    (c .solve .last .self .table) (c .in-Continue-low .low) (c .in-Continue-low .ensures tt .rule) (c .in-Over .is)
     in
     record { kept = c .made .ensures .kept; rule = handed a (c .made .last .self .table) _ (c .made .ensures .rule) }
 
 pub work-made-requires-in-Lift : need.work-made-requires-in-Lift
 work-made-requires-in-Lift g t c κs =
     let a = opened (moves g) (laws g) (c .args .room .nodes) (blank g) (c .args .self .now .table) (c .args .task) (c .plan-plan .result) (c .pre .valid) (c .plan-plan .ensures)
-      (c .solve .last .self .table) (c .in-Continue-low .low) (c .in-Continue-low .ensures tt .rule) (c .in-Lift .is)
+    (c .solve .last .self .table) (c .in-Continue-low .low) (c .in-Continue-low .ensures tt .rule) (c .in-Lift .is)
     in
     record { asks = a .meets .0; kept = c .solve .ensures .kept }
 
 pub work-returns-in-Lift : need.work-returns-in-Lift
 work-returns-in-Lift g t c =
     let a = opened (moves g) (laws g) (c .args .room .nodes) (blank g) (c .args .self .now .table) (c .args .task) (c .plan-plan .result) (c .pre .valid) (c .plan-plan .ensures)
-      (c .solve .last .self .table) (c .in-Continue-low .low) (c .in-Continue-low .ensures tt .rule) (c .in-Lift .is)
+    (c .solve .last .self .table) (c .in-Continue-low .low) (c .in-Continue-low .ensures tt .rule) (c .in-Lift .is)
     in
     record { kept = c .made-in-Lift .ensures .kept; rule = handed a (c .made-in-Lift .last .self .table) _ (c .made-in-Lift .ensures .rule) }
 
 pub work-solve-requires-in-Both : need.work-solve-requires-in-Both
 work-solve-requires-in-Both g t c κs within =
     let a = opened (moves g) (laws g) (c .args .room .nodes) (blank g) (c .args .self .now .table) (c .args .task) (c .plan-plan .result) (c .pre .valid) (c .plan-plan .ensures)
-      (c .solve .last .self .table) (c .in-Continue-low .low) (c .in-Continue-low .ensures tt .rule) (c .in-Both .is)
+    (c .solve .last .self .table) (c .in-Continue-low .low) (c .in-Continue-low .ensures tt .rule) (c .in-Both .is)
     in
     (omega (arith, a .meets .1), (within .0, (within .1, (a .meets .0, c .solve .ensures .kept))))
 
 pub work-returns-in-Break-high : need.work-returns-in-Break-high
 work-returns-in-Break-high g t c =
     let a = opened (moves g) (laws g) (c .args .room .nodes) (blank g) (c .args .self .now .table) (c .args .task) (c .plan-plan .result) (c .pre .valid) (c .plan-plan .ensures)
-      (c .solve .last .self .table) (c .in-Continue-low .low) (c .in-Continue-low .ensures tt .rule) (c .in-Both .is)
+    (c .solve .last .self .table) (c .in-Continue-low .low) (c .in-Continue-low .ensures tt .rule) (c .in-Both .is)
     in
     record {
       kept = c .solve-in-Both .ensures .kept;
@@ -154,7 +154,7 @@ work-returns-in-Break-high g t c =
 pub work-made-requires-in-Both : need.work-made-requires-in-Both
 work-made-requires-in-Both g t c κs =
     let a = opened (moves g) (laws g) (c .args .room .nodes) (blank g) (c .args .self .now .table) (c .args .task) (c .plan-plan .result) (c .pre .valid) (c .plan-plan .ensures)
-      (c .solve .last .self .table) (c .in-Continue-low .low) (c .in-Continue-low .ensures tt .rule) (c .in-Both .is)
+    (c .solve .last .self .table) (c .in-Continue-low .low) (c .in-Continue-low .ensures tt .rule) (c .in-Both .is)
     in
     let b = entered a (c .solve-in-Both .last .self .table) (c .in-Continue-high .high) (c .in-Continue-high .ensures tt .rule) (c .saturating-add-entries .ensures) in
     record { asks = b .meets .0; kept = c .solve-in-Both .ensures .kept }
@@ -162,7 +162,7 @@ work-made-requires-in-Both g t c κs =
 pub work-returns-in-Continue-high : need.work-returns-in-Continue-high
 work-returns-in-Continue-high g t c =
     let a = opened (moves g) (laws g) (c .args .room .nodes) (blank g) (c .args .self .now .table) (c .args .task) (c .plan-plan .result) (c .pre .valid) (c .plan-plan .ensures)
-      (c .solve .last .self .table) (c .in-Continue-low .low) (c .in-Continue-low .ensures tt .rule) (c .in-Both .is)
+    (c .solve .last .self .table) (c .in-Continue-low .low) (c .in-Continue-low .ensures tt .rule) (c .in-Both .is)
     in
     let b = entered a (c .solve-in-Both .last .self .table) (c .in-Continue-high .high) (c .in-Continue-high .ensures tt .rule) (c .saturating-add-entries .ensures) in
     record { kept = c .made-in-Both .ensures .kept; rule = handed b (c .made-in-Both .last .self .table) _ (c .made-in-Both .ensures .rule) }
@@ -170,14 +170,14 @@ work-returns-in-Continue-high g t c =
 pub work-solve-requires-in-Join : need.work-solve-requires-in-Join
 work-solve-requires-in-Join g t c κs within =
     let a = opened (moves g) (laws g) (c .args .room .nodes) (blank g) (c .args .self .now .table) (c .args .task) (c .plan-plan .result) (c .pre .valid) (c .plan-plan .ensures)
-      (c .solve .last .self .table) (c .in-Continue-low .low) (c .in-Continue-low .ensures tt .rule) (c .in-Join .is)
+    (c .solve .last .self .table) (c .in-Continue-low .low) (c .in-Continue-low .ensures tt .rule) (c .in-Join .is)
     in
     (omega (arith, a .meets .1), (within .0, (within .1, (a .meets .0, c .solve .ensures .kept))))
 
 pub work-returns-in-Break-high-2 : need.work-returns-in-Break-high-2
 work-returns-in-Break-high-2 g t c =
     let a = opened (moves g) (laws g) (c .args .room .nodes) (blank g) (c .args .self .now .table) (c .args .task) (c .plan-plan .result) (c .pre .valid) (c .plan-plan .ensures)
-      (c .solve .last .self .table) (c .in-Continue-low .low) (c .in-Continue-low .ensures tt .rule) (c .in-Join .is)
+    (c .solve .last .self .table) (c .in-Continue-low .low) (c .in-Continue-low .ensures tt .rule) (c .in-Join .is)
     in
     record {
       kept = c .solve-in-Join .ensures .kept;
@@ -187,7 +187,7 @@ work-returns-in-Break-high-2 g t c =
 pub work-joined-requires : need.work-joined-requires
 work-joined-requires g t c κs within =
     let a = opened (moves g) (laws g) (c .args .room .nodes) (blank g) (c .args .self .now .table) (c .args .task) (c .plan-plan .result) (c .pre .valid) (c .plan-plan .ensures)
-      (c .solve .last .self .table) (c .in-Continue-low .low) (c .in-Continue-low .ensures tt .rule) (c .in-Join .is)
+    (c .solve .last .self .table) (c .in-Continue-low .low) (c .in-Continue-low .ensures tt .rule) (c .in-Join .is)
     in
     let b = entered a (c .solve-in-Join .last .self .table) (c .in-Continue-high-2 .high) (c .in-Continue-high-2 .ensures tt .rule) (c .saturating-add-entries-in-Join .ensures) in
     (omega (arith, b .meets .1), (within .0, (within .1, (b .meets .0, c .solve-in-Join .ensures .kept))))
@@ -195,7 +195,7 @@ work-joined-requires g t c κs within =
 pub work-returns-in-Continue-high-2 : need.work-returns-in-Continue-high-2
 work-returns-in-Continue-high-2 g t c =
     let a = opened (moves g) (laws g) (c .args .room .nodes) (blank g) (c .args .self .now .table) (c .args .task) (c .plan-plan .result) (c .pre .valid) (c .plan-plan .ensures)
-      (c .solve .last .self .table) (c .in-Continue-low .low) (c .in-Continue-low .ensures tt .rule) (c .in-Join .is)
+    (c .solve .last .self .table) (c .in-Continue-low .low) (c .in-Continue-low .ensures tt .rule) (c .in-Join .is)
     in
     let b = entered a (c .solve-in-Join .last .self .table) (c .in-Continue-high-2 .high) (c .in-Continue-high-2 .ensures tt .rule) (c .saturating-add-entries-in-Join .ensures) in
     record { kept = c .joined .ensures .kept; rule = handed b (c .joined .last .self .table) _ (c .joined .ensures .rule) }
@@ -203,14 +203,14 @@ work-returns-in-Continue-high-2 g t c =
 pub work-solve-requires-in-Raise : need.work-solve-requires-in-Raise
 work-solve-requires-in-Raise g t c κs within =
     let a = opened (moves g) (laws g) (c .args .room .nodes) (blank g) (c .args .self .now .table) (c .args .task) (c .plan-plan .result) (c .pre .valid) (c .plan-plan .ensures)
-      (c .solve .last .self .table) (c .in-Continue-low .low) (c .in-Continue-low .ensures tt .rule) (c .in-Raise .is)
+    (c .solve .last .self .table) (c .in-Continue-low .low) (c .in-Continue-low .ensures tt .rule) (c .in-Raise .is)
     in
     (omega (arith, a .meets .1), (within .0, (within .1, (a .meets .0, c .solve .ensures .kept))))
 
 pub work-returns-in-Break-high-3 : need.work-returns-in-Break-high-3
 work-returns-in-Break-high-3 g t c =
     let a = opened (moves g) (laws g) (c .args .room .nodes) (blank g) (c .args .self .now .table) (c .args .task) (c .plan-plan .result) (c .pre .valid) (c .plan-plan .ensures)
-      (c .solve .last .self .table) (c .in-Continue-low .low) (c .in-Continue-low .ensures tt .rule) (c .in-Raise .is)
+    (c .solve .last .self .table) (c .in-Continue-low .low) (c .in-Continue-low .ensures tt .rule) (c .in-Raise .is)
     in
     record {
       kept = c .solve-in-Raise .ensures .kept;
@@ -220,7 +220,7 @@ work-returns-in-Break-high-3 g t c =
 pub work-add-requires : need.work-add-requires
 work-add-requires g t c κs =
     let a = opened (moves g) (laws g) (c .args .room .nodes) (blank g) (c .args .self .now .table) (c .args .task) (c .plan-plan .result) (c .pre .valid) (c .plan-plan .ensures)
-      (c .solve .last .self .table) (c .in-Continue-low .low) (c .in-Continue-low .ensures tt .rule) (c .in-Raise .is)
+    (c .solve .last .self .table) (c .in-Continue-low .low) (c .in-Continue-low .ensures tt .rule) (c .in-Raise .is)
     in
     let b = entered a (c .solve-in-Raise .last .self .table) (c .in-Continue-high-3 .high) (c .in-Continue-high-3 .ensures tt .rule) (c .saturating-add-entries-in-Raise .ensures) in
     record { asks = b .meets .0; kept = c .solve-in-Raise .ensures .kept }
@@ -228,7 +228,7 @@ work-add-requires g t c κs =
 pub work-returns-in-Break-top : need.work-returns-in-Break-top
 work-returns-in-Break-top g t c =
     let a = opened (moves g) (laws g) (c .args .room .nodes) (blank g) (c .args .self .now .table) (c .args .task) (c .plan-plan .result) (c .pre .valid) (c .plan-plan .ensures)
-      (c .solve .last .self .table) (c .in-Continue-low .low) (c .in-Continue-low .ensures tt .rule) (c .in-Raise .is)
+    (c .solve .last .self .table) (c .in-Continue-low .low) (c .in-Continue-low .ensures tt .rule) (c .in-Raise .is)
     in
     let b = entered a (c .solve-in-Raise .last .self .table) (c .in-Continue-high-3 .high) (c .in-Continue-high-3 .ensures tt .rule) (c .saturating-add-entries-in-Raise .ensures) in
     record {
@@ -239,7 +239,7 @@ work-returns-in-Break-top g t c =
 pub work-joined-requires-in-Raise : need.work-joined-requires-in-Raise
 work-joined-requires-in-Raise g t c κs within =
     let a = opened (moves g) (laws g) (c .args .room .nodes) (blank g) (c .args .self .now .table) (c .args .task) (c .plan-plan .result) (c .pre .valid) (c .plan-plan .ensures)
-      (c .solve .last .self .table) (c .in-Continue-low .low) (c .in-Continue-low .ensures tt .rule) (c .in-Raise .is)
+    (c .solve .last .self .table) (c .in-Continue-low .low) (c .in-Continue-low .ensures tt .rule) (c .in-Raise .is)
     in
     let b = entered a (c .solve-in-Raise .last .self .table) (c .in-Continue-high-3 .high) (c .in-Continue-high-3 .ensures tt .rule) (c .saturating-add-entries-in-Raise .ensures) in
     let d = added b (c .add .last .self .table) (c .in-Continue-top .top) (c .in-Continue-top .ensures tt .rule) in
@@ -248,7 +248,7 @@ work-joined-requires-in-Raise g t c κs within =
 pub work-returns-in-Continue-top : need.work-returns-in-Continue-top
 work-returns-in-Continue-top g t c =
     let a = opened (moves g) (laws g) (c .args .room .nodes) (blank g) (c .args .self .now .table) (c .args .task) (c .plan-plan .result) (c .pre .valid) (c .plan-plan .ensures)
-      (c .solve .last .self .table) (c .in-Continue-low .low) (c .in-Continue-low .ensures tt .rule) (c .in-Raise .is)
+    (c .solve .last .self .table) (c .in-Continue-low .low) (c .in-Continue-low .ensures tt .rule) (c .in-Raise .is)
     in
     let b = entered a (c .solve-in-Raise .last .self .table) (c .in-Continue-high-3 .high) (c .in-Continue-high-3 .ensures tt .rule) (c .saturating-add-entries-in-Raise .ensures) in
     let d = added b (c .add .last .self .table) (c .in-Continue-top .top) (c .in-Continue-top .ensures tt .rule) in
@@ -257,14 +257,14 @@ work-returns-in-Continue-top g t c =
 pub work-solve-requires-in-Move : need.work-solve-requires-in-Move
 work-solve-requires-in-Move g t c κs within =
     let a = opened (moves g) (laws g) (c .args .room .nodes) (blank g) (c .args .self .now .table) (c .args .task) (c .plan-plan .result) (c .pre .valid) (c .plan-plan .ensures)
-      (c .solve .last .self .table) (c .in-Continue-low .low) (c .in-Continue-low .ensures tt .rule) (c .in-Move .is)
+    (c .solve .last .self .table) (c .in-Continue-low .low) (c .in-Continue-low .ensures tt .rule) (c .in-Move .is)
     in
     (omega (arith, a .meets .1), (within .0, (within .1, (a .meets .0, c .solve .ensures .kept))))
 
 pub work-returns-in-Break-high-4 : need.work-returns-in-Break-high-4
 work-returns-in-Break-high-4 g t c =
     let a = opened (moves g) (laws g) (c .args .room .nodes) (blank g) (c .args .self .now .table) (c .args .task) (c .plan-plan .result) (c .pre .valid) (c .plan-plan .ensures)
-      (c .solve .last .self .table) (c .in-Continue-low .low) (c .in-Continue-low .ensures tt .rule) (c .in-Move .is)
+    (c .solve .last .self .table) (c .in-Continue-low .low) (c .in-Continue-low .ensures tt .rule) (c .in-Move .is)
     in
     record {
       kept = c .solve-in-Move .ensures .kept;
@@ -274,7 +274,7 @@ work-returns-in-Break-high-4 g t c =
 pub work-solve-requires-in-Move-2 : need.work-solve-requires-in-Move-2
 work-solve-requires-in-Move-2 g t c κs within =
     let a = opened (moves g) (laws g) (c .args .room .nodes) (blank g) (c .args .self .now .table) (c .args .task) (c .plan-plan .result) (c .pre .valid) (c .plan-plan .ensures)
-      (c .solve .last .self .table) (c .in-Continue-low .low) (c .in-Continue-low .ensures tt .rule) (c .in-Move .is)
+    (c .solve .last .self .table) (c .in-Continue-low .low) (c .in-Continue-low .ensures tt .rule) (c .in-Move .is)
     in
     let b = entered a (c .solve-in-Move .last .self .table) (c .in-Continue-high-4 .high) (c .in-Continue-high-4 .ensures tt .rule) {f = min (c .in-Continue-low .low .entries + c .in-Continue-high-4 .high .entries) (2 ^ 64 - 1)} refl in
     (omega (arith, b .meets .1), (within .0, (within .1, (b .meets .0, c .solve-in-Move .ensures .kept))))
@@ -282,7 +282,7 @@ work-solve-requires-in-Move-2 g t c κs within =
 pub work-returns-in-Break-moved : need.work-returns-in-Break-moved
 work-returns-in-Break-moved g t c =
     let a = opened (moves g) (laws g) (c .args .room .nodes) (blank g) (c .args .self .now .table) (c .args .task) (c .plan-plan .result) (c .pre .valid) (c .plan-plan .ensures)
-      (c .solve .last .self .table) (c .in-Continue-low .low) (c .in-Continue-low .ensures tt .rule) (c .in-Move .is)
+    (c .solve .last .self .table) (c .in-Continue-low .low) (c .in-Continue-low .ensures tt .rule) (c .in-Move .is)
     in
     let b = entered a (c .solve-in-Move .last .self .table) (c .in-Continue-high-4 .high) (c .in-Continue-high-4 .ensures tt .rule) {f = min (c .in-Continue-low .low .entries + c .in-Continue-high-4 .high .entries) (2 ^ 64 - 1)} refl in
     record {
@@ -293,7 +293,7 @@ work-returns-in-Break-moved g t c =
 pub work-joined-requires-in-Move : need.work-joined-requires-in-Move
 work-joined-requires-in-Move g t c κs within =
     let a = opened (moves g) (laws g) (c .args .room .nodes) (blank g) (c .args .self .now .table) (c .args .task) (c .plan-plan .result) (c .pre .valid) (c .plan-plan .ensures)
-      (c .solve .last .self .table) (c .in-Continue-low .low) (c .in-Continue-low .ensures tt .rule) (c .in-Move .is)
+    (c .solve .last .self .table) (c .in-Continue-low .low) (c .in-Continue-low .ensures tt .rule) (c .in-Move .is)
     in
     let b = entered a (c .solve-in-Move .last .self .table) (c .in-Continue-high-4 .high) (c .in-Continue-high-4 .ensures tt .rule) (c .saturating-add .ensures) in
     let d = entered b (c .solve-in-Move-2 .last .self .table) (c .in-Continue-moved .moved) (c .in-Continue-moved .ensures tt .rule) (c .saturating-add-entries-in-Move .ensures) in
@@ -302,7 +302,7 @@ work-joined-requires-in-Move g t c κs within =
 pub work-returns-in-Continue-moved : need.work-returns-in-Continue-moved
 work-returns-in-Continue-moved g t c =
     let a = opened (moves g) (laws g) (c .args .room .nodes) (blank g) (c .args .self .now .table) (c .args .task) (c .plan-plan .result) (c .pre .valid) (c .plan-plan .ensures)
-      (c .solve .last .self .table) (c .in-Continue-low .low) (c .in-Continue-low .ensures tt .rule) (c .in-Move .is)
+    (c .solve .last .self .table) (c .in-Continue-low .low) (c .in-Continue-low .ensures tt .rule) (c .in-Move .is)
     in
     let b = entered a (c .solve-in-Move .last .self .table) (c .in-Continue-high-4 .high) (c .in-Continue-high-4 .ensures tt .rule) (c .saturating-add .ensures) in
     let d = entered b (c .solve-in-Move-2 .last .self .table) (c .in-Continue-moved .moved) (c .in-Continue-moved .ensures tt .rule) (c .saturating-add-entries-in-Move .ensures) in

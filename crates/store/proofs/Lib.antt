@@ -1,0 +1,3 @@
+pub mod Racks
+pub mod Worked
+pub mod Added
