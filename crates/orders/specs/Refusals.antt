@@ -1,7 +1,7 @@
 -- The number of each refusal. Assumes nothing.
 use Prim.Native.Nat.{ℕ}
 use Rattle.orders.specs.declared.refusal.Refusal.{Refusal}
-use Rattle.orders.specs.declared.refusal.Refusal.the-variants.{BadPieces, BadCapacity, BadRow, OtherSeason, NoSuchNumber, OutOfRange, NoRoom, PastEnd, BadNode}
+use Rattle.orders.specs.declared.refusal.Refusal.the-variants.{BadPieces, BadCapacity, BadRow, OtherSeason, NoSuchNumber, OutOfRange, NoRoom, NoSuchPeg, PegFilled, NoSuchHold, LastSeason, PastEnd, BadNode}
 
 abbrev pub number : Refusal → ℕ
 number BadPieces = 1
@@ -11,5 +11,9 @@ number OtherSeason = 4
 number NoSuchNumber = 5
 number OutOfRange = 6
 number NoRoom = 7
+number NoSuchPeg = 8
+number PegFilled = 9
+number NoSuchHold = 10
+number LastSeason = 11
 number PastEnd = 12
 number BadNode = 16

@@ -18,6 +18,14 @@ pub enum Refusal {
     OutOfRange,
     // 7: there is no room for a node, or for a list's record
     NoRoom,
+    // 8: the peg is not one of 0 to 63
+    NoSuchPeg,
+    // 9: the peg is not empty
+    PegFilled,
+    // 10: the hold has not this store's mark and a filled peg
+    NoSuchHold,
+    // 11: the season is the last, and no sweep follows it
+    LastSeason,
     // 12: a number is not below the count, or a list's place is not filled
     PastEnd,
     // 16: the values are not those of a node
@@ -37,6 +45,10 @@ impl Refusal {
             Refusal::NoSuchNumber => 5,
             Refusal::OutOfRange => 6,
             Refusal::NoRoom => 7,
+            Refusal::NoSuchPeg => 8,
+            Refusal::PegFilled => 9,
+            Refusal::NoSuchHold => 10,
+            Refusal::LastSeason => 11,
             Refusal::PastEnd => 12,
             Refusal::BadNode => 16,
         }

@@ -24,10 +24,12 @@ use Rattle.store.specs.declared.shapes.Found.{Found}
 use Rattle.store.specs.declared.shapes.Handle.{Handle}
 use Rattle.store.specs.declared.shapes.SetCall.{SetCall}
 use Rattle.store.specs.declared.shapes.SetCall.the-variants.{Single, Join, Meet, Without, Carry, Follow, Pick}
+use Rattle.store.specs.declared.hold.Hold.{Hold}
+use Rattle.store.specs.declared.hold.Returned.{Returned}
 use Rattle.store.specs.declared.store.Store.{Store}
 use Rattle.store.specs.Views.{View, view, room-of}
 use Rattle.store.specs.Questions.{task-of}
-use Rattle.store.specs.Steps.{Call, Reply, found, declined, sets, step, bare}
+use Rattle.store.specs.Steps.{Call, Reply, found, declined, held, released, returned, sets, step, bare}
 
 -- What holds of a store between calls: every pair that its cache remembers is right. `begin` promises it, and every call
 -- asks for it and promises it again.
@@ -55,6 +57,14 @@ found-entries (Err e) = 0
 abbrev pub handle-reply : Result Handle Refusal → Reply
 handle-reply (Ok h) = found h
 handle-reply (Err e) = declined e
+
+abbrev pub hold-reply : Result Hold Refusal → Reply
+hold-reply (Ok h) = held h
+hold-reply (Err e) = declined e
+
+abbrev pub release-reply : Result (Unit {0}) Returned → Reply
+release-reply (Ok u) = released
+release-reply (Err b) = returned (b .refusal) (b .hold)
 
 -- The orders that a call is to find, in words of orders.
 abbrev pub Wanted : Moves → View → SetCall → Order → Type 0

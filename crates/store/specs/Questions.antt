@@ -1,15 +1,16 @@
 -- The questions of the calls, in their order: the first no declines. Assumes nothing.
-use mathlib.Core.Bool.{Bool, true, false, _&&_}
+use mathlib.Core.Bool.{Bool, true, false, _&&_, not}
 use Prim.Native.Nat.{ℕ, suc}
 use lib.Dec.{eqb, ltb, leb}
-use lib.ListN.{length}
+use lib.ListN.{length, getD}
+use Rattle.std.specs.Options.{isSome}
 use Rattle.std.specs.declared.option.Option.{Option}
 use Rattle.std.specs.declared.option.Option.the-variants.{Some, None}
 use Rattle.std.specs.declared.result.Result.{Result}
 use Rattle.std.specs.declared.result.Result.the-variants.{Ok, Err}
 use Rattle.orders.specs.declared.order.Order.{Order}
 use Rattle.orders.specs.declared.refusal.Refusal.{Refusal}
-use Rattle.orders.specs.declared.refusal.Refusal.the-variants.{BadPieces, BadCapacity, OtherSeason, NoSuchNumber, OutOfRange}
+use Rattle.orders.specs.declared.refusal.Refusal.the-variants.{BadPieces, BadCapacity, OtherSeason, NoSuchNumber, OutOfRange, NoSuchPeg, PegFilled, NoSuchHold}
 use Rattle.orders.specs.Dimension.{dimension}
 use Rattle.diagrams.specs.declared.Task.{Task}
 use Rattle.diagrams.specs.declared.Task.the-variants as tasks
@@ -76,3 +77,16 @@ task-of (Without a b) = tasks.Without (a .number) (b .number)
 task-of (Carry a o) = tasks.Carry (a .number) o
 task-of (Follow a b) = tasks.Follow (a .number) (b .number)
 task-of (Pick a k p) = tasks.Pick (a .number) k p
+
+-- 8: is the peg one of 0 to 63? 9: is it empty?
+unfoldable pub peg-asked : View → ℕ → Option Refusal
+peg-asked w p = ask (ltb p 64) NoSuchPeg (ask (not (isSome (getD (w .pegs) p None))) PegFilled None)
+
+-- 10: has the hold this store's mark, and a filled peg? If so, the number on the peg.
+abbrev pub on-peg : Bool → Option ℕ → Result ℕ Refusal
+on-peg false p = Err NoSuchHold
+on-peg true None = Err NoSuchHold
+on-peg true (Some n) = Ok n
+
+unfoldable pub held-on : View → ℕ → ℕ → Result ℕ Refusal
+held-on w mark peg = on-peg (eqb mark (w .plan .mark) && ltb peg 64) (getD (w .pegs) peg None)

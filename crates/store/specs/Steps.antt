@@ -3,7 +3,7 @@ use mathlib.Core.Bool.{Bool, true, false, _&&_, not}
 use mathlib.Core.List.{List}
 use Prim.Native.Nat.{ℕ, suc}
 use lib.Dec.{eqb, ltb, leb}
-use lib.ListN.{length}
+use lib.ListN.{length, set}
 use Rattle.std.specs.declared.option.Option.{Option}
 use Rattle.std.specs.declared.option.Option.the-variants.{Some, None}
 use Rattle.orders.specs.declared.refusal.Refusal.{Refusal}
@@ -16,8 +16,11 @@ use Rattle.diagrams.specs.Rules.{Outcome, done, full, node}
 use Rattle.diagrams.specs.Work.{task}
 use Rattle.store.specs.declared.shapes.Handle.{Handle}
 use Rattle.store.specs.declared.shapes.SetCall.{SetCall}
-use Rattle.store.specs.Views.{View, room-of, with-nodes}
-use Rattle.store.specs.Questions.{ask, call-asked, task-of}
+use Rattle.std.specs.declared.result.Result.{Result}
+use Rattle.std.specs.declared.result.Result.the-variants.{Ok, Err}
+use Rattle.store.specs.declared.hold.Hold.{Hold}
+use Rattle.store.specs.Views.{View, room-of, with-nodes, with-pegs}
+use Rattle.store.specs.Questions.{ask, or-else, handle-asked, peg-asked, held-on, call-asked, task-of}
 
 -- a call, with whatever it may be handed
 pub data Call : Type 0 where
@@ -25,11 +28,19 @@ pub data Call : Type 0 where
   sets : SetCall → Call
   -- a node with four values is found or added
   adds : ℕ → ℕ → ℕ → ℕ → Call
+  -- a set is put on a peg
+  holds : Handle → ℕ → Call
+  -- a hold is given back
+  releases : Hold → Call
 
 -- what a call answers, apart from its entries
 pub data Reply : Type 0 where
   found : Handle → Reply
   declined : Refusal → Reply
+  held : Hold → Reply
+  released : Reply
+  -- a release that is declined hands the hold back
+  returned : Refusal → Hold → Reply
 
 abbrev pub After : Type 0
 After = View × Reply
@@ -59,10 +70,27 @@ keeps-rules w x y lo hi =
 unfoldable pub node-asked : View → ℕ → ℕ → ℕ → ℕ → Option Refusal
 node-asked w x y lo hi = ask (keeps-rules w x y lo hi) BadNode None
 
+-- the handle on the peg of a hold
+abbrev pub handle-at : View → Result ℕ Refusal → Result Handle Refusal
+handle-at w (Ok n) = Ok (handle-of w n)
+handle-at w (Err e) = Err e
+
+abbrev pub handle-held : View → Hold → Result Handle Refusal
+handle-held w h = handle-at w (held-on w (h .mark) (h .peg))
+
+-- the peg of a hold is emptied, if the hold is the store's
+abbrev pub released-by : View → Hold → Result ℕ Refusal → After
+released-by w h (Ok n) = (with-pegs w (set (w .pegs) (h .peg) None), released)
+released-by w h (Err e) = (w, returned e h)
+
 -- What each call does, by the chain's moves g: its questions, and then the rule of work.
 abbrev pub step : Moves → View → Call → After
 step g w (sets call) = unless (call-asked w call) w (worked w (task g (room-of w) (w .nodes) (task-of call)))
 step g w (adds x y lo hi) = unless (node-asked w x y lo hi) w (worked w (node (room-of w) (w .nodes) x y lo hi 0))
+step g w (holds h p) =
+    unless (or-else (handle-asked w h) (peg-asked w p)) w
+    (with-pegs w (set (w .pegs) p (Some (h .number))), held (record { mark = w .plan .mark; peg = p }))
+step g w (releases h) = released-by w h (held-on w (h .mark) (h .peg))
 
 -- the entries of the bare rule, none where the call is declined
 abbrev pub entries-in : Outcome → ℕ
@@ -76,3 +104,5 @@ entries-if (Some e) n = 0
 abbrev pub bare : Moves → View → Call → ℕ
 bare g w (sets call) = entries-if (call-asked w call) (entries-in (task g (room-of w) (w .nodes) (task-of call)))
 bare g w (adds x y lo hi) = 0
+bare g w (holds h p) = 0
+bare g w (releases h) = 0

@@ -24,3 +24,7 @@ room-of w = w .plan .room .nodes
 -- the same store with other nodes
 abbrev pub with-nodes : View → List Node → View
 with-nodes w N = record { plan = w .plan; season = w .season; nodes = N; pegs = w .pegs }
+
+-- the same store with other pegs
+abbrev pub with-pegs : View → Pegs → View
+with-pegs w P = record { plan = w .plan; season = w .season; nodes = w .nodes; pegs = P }

@@ -1,8 +1,11 @@
 // The store: sets of orders by handle, over a node table, a chain and a cache.
+mod hold;
 mod plan;
 mod shapes;
 mod store;
 
+pub use hold::Hold;
+pub use hold::Returned;
 pub use plan::Plan;
 pub use shapes::Found;
 pub use shapes::Handle;

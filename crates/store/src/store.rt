@@ -10,6 +10,7 @@ use orders::Chain;
 
 mod begin;
 mod nodes;
+mod pegs;
 mod questions;
 mod sets;
 

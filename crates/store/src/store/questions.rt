@@ -1,5 +1,6 @@
 // The questions that a call asks before its work; the first no declines it.
 ghost use mathlib.Core.Path.{_≡_};
+ghost use Rattle.std.specs.Results.{isOk};
 ghost use Rattle.store.specs.Views.{view};
 ghost use Rattle.store.specs.Questions.{answered, or-else, handle-asked, order-asked, spot-asked, call-asked, task-of};
 use super::Store;
@@ -23,6 +24,13 @@ impl<G: Chain, C: Cache> Store<G, C> {
             return Err(Refusal::NoSuchNumber);
         }
         Ok(handle.number)
+    }
+
+    // Whether the store accepts a handle.
+    pub fn accepts(&self, handle: Handle) -> bool
+        ensures { λ r. ⌜ r ≡ isOk (answered (handle-asked (view (now (self .entry))) handle) (handle .number)) ⌝ }
+    {
+        self.number_of(handle).is_ok()
     }
 
     // The numbers of two handles, the first asked first.
@@ -55,6 +63,24 @@ impl<G: Chain, C: Cache> Store<G, C> {
         Ok(())
     }
 
+    // The number of a handle that is carried by an order.
+    fn number_with_order(&self, handle: Handle, order: Order) -> Result<u32, Refusal>
+        ensures { λ r. ⌜ r ≡ answered (or-else (handle-asked (view (now (self .entry))) handle) (order-asked (view (now (self .entry))) order)) (handle .number) ⌝ }
+    {
+        let number = self.number_of(handle)?;
+        self.has_pieces_of(order)?;
+        Ok(number)
+    }
+
+    // The number of a handle in which a piece is looked for in a place.
+    fn number_with_spot(&self, handle: Handle, piece: u8, place: u8) -> Result<u32, Refusal>
+        ensures { λ r. ⌜ r ≡ answered (or-else (handle-asked (view (now (self .entry))) handle) (spot-asked (view (now (self .entry))) piece place)) (handle .number) ⌝ }
+    {
+        let number = self.number_of(handle)?;
+        self.has_spot(piece, place)?;
+        Ok(number)
+    }
+
     // The task of a call, once its questions are answered.
     pub(super) fn task_of(&self, call: SetCall) -> Result<Task, Refusal>
         ensures { λ r. ⌜ r ≡ answered (call-asked (view (now (self .entry))) call) (task-of call) ⌝ }
@@ -77,8 +103,7 @@ impl<G: Chain, C: Cache> Store<G, C> {
                 Ok(Task::Without(a, b))
             }
             SetCall::Carry(a, order) => {
-                let a = self.number_of(a)?;
-                self.has_pieces_of(order)?;
+                let a = self.number_with_order(a, order)?;
                 Ok(Task::Carry(a, order))
             }
             SetCall::Follow(a, b) => {
@@ -86,8 +111,7 @@ impl<G: Chain, C: Cache> Store<G, C> {
                 Ok(Task::Follow(a, b))
             }
             SetCall::Pick(a, piece, place) => {
-                let a = self.number_of(a)?;
-                self.has_spot(piece, place)?;
+                let a = self.number_with_spot(a, piece, place)?;
                 Ok(Task::Pick(a, piece, place))
             }
         }

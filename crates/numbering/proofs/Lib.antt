@@ -1,0 +1,4 @@
+pub mod Factors
+pub mod Lists
+pub mod Ranks
+pub mod Walks

@@ -1,0 +1,4 @@
+pub mod Before
+pub mod Numbered
+pub mod Theorems
+pub mod Examples
