@@ -19,16 +19,16 @@ use Rattle.diagrams.proofs.Canon.{in-low, in-high, in-parts}
 use Rattle.diagrams.proofs.Sets.{in-none, in-one}
 use Rattle.diagrams.proofs.Groups.{back-move, move-back}
 
-has-left : (l m : List Order) (o : Order) → Has l o → Has (l ++ m) o
+pub has-left : (l m : List Order) (o : Order) → Has l o → Has (l ++ m) o
 has-left [] m o h = absurd h
 has-left (a ∷ l) m o (inl e) = inl e
 has-left (a ∷ l) m o (inr h) = inr (has-left l m o h)
 
-has-right : (l m : List Order) (o : Order) → Has m o → Has (l ++ m) o
+pub has-right : (l m : List Order) (o : Order) → Has m o → Has (l ++ m) o
 has-right [] m o h = h
 has-right (a ∷ l) m o h = inr (has-right l m o h)
 
-has-split : (l m : List Order) (o : Order) → Has (l ++ m) o → (Has l o) ⊎ (Has m o)
+pub has-split : (l m : List Order) (o : Order) → Has (l ++ m) o → (Has l o) ⊎ (Has m o)
 has-split [] m o h = inr h
 has-split (a ∷ l) m o (inl e) = inl (inl e)
 has-split (a ∷ l) m o (inr h) = by (has-split l m o h)
@@ -37,7 +37,7 @@ has-split (a ∷ l) m o (inr h) = by (has-split l m o h)
     by (inl k) = inl (inr k)
     by (inr k) = inr k
 
-distinct-both : (l m : List Order) → Distinct l → Distinct m → ((o : Order) → Has l o → Has m o → ⊥) → Distinct (l ++ m)
+pub distinct-both : (l m : List Order) → Distinct l → Distinct m → ((o : Order) → Has l o → Has m o → ⊥) → Distinct (l ++ m)
 distinct-both [] m d e f = e
 distinct-both (a ∷ l) m d e f = (λ h. by (has-split l m a h), distinct-both l m (d .1) e (λ o h. f o (inr h)))
   where
@@ -46,23 +46,23 @@ distinct-both (a ∷ l) m d e f = (λ h. by (has-split l m a h), distinct-both l
     by (inr h) = f a (inl refl) h
 
 module _ (f : Order → Order) where
-  has-map : (l : List Order) (o : Order) → Has l o → Has (map f l) (f o)
+  pub has-map : (l : List Order) (o : Order) → Has l o → Has (map f l) (f o)
   has-map [] o h = absurd h
   has-map (a ∷ l) o (inl e) = inl (ap f e)
   has-map (a ∷ l) o (inr h) = inr (has-map l o h)
 
-  map-has : (l : List Order) (p : Order) → Has (map f l) p → (o : Order) × (Has l o × (f o ≡ p))
+  pub map-has : (l : List Order) (p : Order) → Has (map f l) p → (o : Order) × (Has l o × (f o ≡ p))
   map-has [] p h = absurd h
   map-has (a ∷ l) p (inl e) = (a, (inl refl, e))
   map-has (a ∷ l) p (inr h) = let r = map-has l p h in (r .0, (inr (r .1 .0), r .1 .1))
 
-  distinct-map : ((a b : Order) → f a ≡ f b → a ≡ b) → (l : List Order) → Distinct l → Distinct (map f l)
+  pub distinct-map : ((a b : Order) → f a ≡ f b → a ≡ b) → (l : List Order) → Distinct l → Distinct (map f l)
   distinct-map inj [] d = tt
   distinct-map inj (a ∷ l) d =
       (λ h. let r = map-has l (f a) h in d .0 (subst (Has l) (inj (r .0) a (r .1 .1)) (r .1 .0)), distinct-map inj l (d .1))
 
 module _ (g : Moves) (laws : ChainLaws g) (N : List Node) (S : Sound N) where
-  list-node : (i : ℕ) → i < length N → orders-of g N (suc (suc i)) ≡ list-of-node g (at N i) (orders-of g N (at N i .lo)) (orders-of g N (at N i .hi))
+  pub list-node : (i : ℕ) → i < length N → orders-of g N (suc (suc i)) ≡ list-of-node g (at N i) (orders-of g N (at N i .lo)) (orders-of g N (at N i .hi))
   unfolding orders-of fold
   list-node i l =
       let k = S .ok i l in

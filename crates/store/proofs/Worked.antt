@@ -43,7 +43,7 @@ asked-true : (b : Bool) (e : Refusal) (rest : Option Refusal) → ask b e rest �
 asked-true true e rest h = (refl, h)
 asked-true false e rest h = let z : _≡_ {A = ℕ} 0 1 = cc in absurd (omega arith)
 
-both-fine : (p q : Option Refusal) → or-else p q ≡ None → (p ≡ None) × (q ≡ None)
+pub both-fine : (p q : Option Refusal) → or-else p q ≡ None → (p ≡ None) × (q ≡ None)
 both-fine None q h = (refl, h)
 both-fine (Some e) q h = let z : _≡_ {A = ℕ} 0 1 = cc in absurd (omega arith)
 

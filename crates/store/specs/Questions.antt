@@ -10,7 +10,7 @@ use Rattle.std.specs.declared.result.Result.{Result}
 use Rattle.std.specs.declared.result.Result.the-variants.{Ok, Err}
 use Rattle.orders.specs.declared.order.Order.{Order}
 use Rattle.orders.specs.declared.refusal.Refusal.{Refusal}
-use Rattle.orders.specs.declared.refusal.Refusal.the-variants.{BadPieces, BadCapacity, OtherSeason, NoSuchNumber, OutOfRange, NoSuchPeg, PegFilled, NoSuchHold}
+use Rattle.orders.specs.declared.refusal.Refusal.the-variants.{BadPieces, BadCapacity, OtherSeason, NoSuchNumber, OutOfRange, NoSuchPeg, PegFilled, NoSuchHold, PastEnd}
 use Rattle.orders.specs.Dimension.{dimension}
 use Rattle.diagrams.specs.declared.Task.{Task}
 use Rattle.diagrams.specs.declared.Task.the-variants as tasks
@@ -90,3 +90,9 @@ on-peg true (Some n) = Ok n
 
 unfoldable pub held-on : View → ℕ → ℕ → Result ℕ Refusal
 held-on w mark peg = on-peg (eqb mark (w .plan .mark) && ltb peg 64) (getD (w .pegs) peg None)
+
+-- 12: is there an order with the number?
+abbrev pub or-past : Option Refusal → Option Order → Result Order Refusal
+or-past (Some e) o = Err e
+or-past None (Some o) = Ok o
+or-past None None = Err PastEnd

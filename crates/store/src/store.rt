@@ -12,6 +12,7 @@ mod begin;
 mod nodes;
 mod pegs;
 mod questions;
+mod reading;
 mod sets;
 
 // How many pegs a store has.

@@ -64,7 +64,7 @@ impl<G: Chain, C: Cache> Store<G, C> {
     }
 
     // The number of a handle that is carried by an order.
-    fn number_with_order(&self, handle: Handle, order: Order) -> Result<u32, Refusal>
+    pub(super) fn number_with_order(&self, handle: Handle, order: Order) -> Result<u32, Refusal>
         ensures { λ r. ⌜ r ≡ answered (or-else (handle-asked (view (now (self .entry))) handle) (order-asked (view (now (self .entry))) order)) (handle .number) ⌝ }
     {
         let number = self.number_of(handle)?;

@@ -36,7 +36,7 @@ returns g c =
     let fine : or-else (handle-asked w h) (peg-asked w p) ≡ None = ap (λ a. or-else a (peg-asked w p)) (yes .0) ∙ free .0 in
     record {
       after = (λ i. (with-pegs w (set (w .pegs) p (Some (yes .1 i))), held (record { mark = c .mark .ensures i; peg = p })))
-        ∙ sym (ap (λ a. unless a w (with-pegs w (set (w .pegs) p (Some (h .number))), held (record { mark = w .plan .mark; peg = p }))) fine);
+          ∙ sym (ap (λ a. unless a w (with-pegs w (set (w .pegs) p (Some (h .number))), held (record { mark = w .plan .mark; peg = p }))) fine);
       kept = c .pre;
       most = zero-le;
       just = λ never. refl;
