@@ -95,7 +95,13 @@ fn a_plan_has_two_to_sixteen_pieces_and_some_room() -> Result<(), Fail> {
 fn single_needs_room_for_two_nodes() -> Result<(), Fail> {
     let mut store = Store::begin(plan(3, 2)?, Swap, Blank);
     let found = store.single(order(3, 1, 2)?)?;
-    check(found.handle == Handle { season: 7, number: 3 })?;
+    check(
+        found.handle
+            == Handle {
+                season: 7,
+                number: 3,
+            },
+    )?;
     check(store.len() == 2)
 }
 

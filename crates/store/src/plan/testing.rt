@@ -35,29 +35,22 @@ impl Plan {
         self.pieces
     }
 
-    // How many nodes the store may have.
-    pub fn capacity(self) -> usize
-        ensures { λ r. ⌜ r ≡ self .room .nodes ⌝ }
-    {
-        self.room.nodes()
-    }
-
     // The season in which the store begins.
-    pub fn season(self) -> u32
+    pub(crate) fn season(self) -> u32
         ensures { λ r. ⌜ r ≡ self .season ⌝ }
     {
         self.season
     }
 
     // What tells the store's holds from those of others.
-    pub fn mark(self) -> u32
+    pub(crate) fn mark(self) -> u32
         ensures { λ r. ⌜ r ≡ self .mark ⌝ }
     {
         self.mark
     }
 
     // Room for that many nodes.
-    pub fn room(self) -> Room
+    pub(crate) fn room(self) -> Room
         ensures { λ r. ⌜ r ≡ self .room ⌝ }
     {
         self.room

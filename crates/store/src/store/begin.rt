@@ -1,6 +1,5 @@
 // A store is begun.
 ghost use mathlib.Core.Path.{_≡_};
-ghost use lib.ListN.{length};
 ghost use Rattle.store.specs.Views.{view};
 ghost use Rattle.store.specs.Steps.{handle-of};
 ghost use Rattle.store.specs.Does.{Begun};
@@ -23,27 +22,6 @@ impl<G: Chain, C: Cache> Store<G, C> {
             pegs: [None; PEGS],
             engine: Engine::new(chain, cache),
         }
-    }
-
-    // The plan that the store was begun from.
-    pub fn plan(&self) -> Plan
-        ensures { λ r. ⌜ r ≡ view (now (self .entry)) .plan ⌝ }
-    {
-        self.plan
-    }
-
-    // The present season.
-    pub fn season(&self) -> u32
-        ensures { λ r. ⌜ r ≡ view (now (self .entry)) .season ⌝ }
-    {
-        self.season
-    }
-
-    // How many nodes stand.
-    pub fn len(&self) -> usize
-        ensures { λ r. ⌜ r ≡ length (view (now (self .entry)) .nodes) ⌝ }
-    {
-        self.engine.table().len()
     }
 
     // The handle of a number.

@@ -1,11 +1,13 @@
-// What is read off a set: how many orders it has, the order of a number, and the number of an order.
+// What is read off a store and its sets: how many orders it has, the order of a number, and the number of an order.
 ghost use mathlib.Core.Path.{_≡_};
+ghost use lib.ListN.{length};
 ghost use Rattle.std.specs.Vec.{made};
 ghost use Rattle.diagrams.specs.Table.{count-of, In};
 ghost use Rattle.numbering.specs.Numbered.{Many, Numbered, Placed, order-at, place-of};
 ghost use Rattle.store.specs.Views.{view};
 ghost use Rattle.store.specs.Questions.{answered, or-else, handle-asked, order-asked, or-past};
 use super::Store;
+use crate::plan::Plan;
 use crate::shapes::Handle;
 use caches::Cache;
 use orders::Chain;
@@ -13,6 +15,27 @@ use orders::Order;
 use orders::Refusal;
 
 impl<G: Chain, C: Cache> Store<G, C> {
+    // The plan that the store was begun from.
+    pub fn plan(&self) -> Plan
+        ensures { λ r. ⌜ r ≡ view (now (self .entry)) .plan ⌝ }
+    {
+        self.plan
+    }
+
+    // The present season.
+    pub fn season(&self) -> u32
+        ensures { λ r. ⌜ r ≡ view (now (self .entry)) .season ⌝ }
+    {
+        self.season
+    }
+
+    // How many nodes stand.
+    pub fn len(&self) -> usize
+        ensures { λ r. ⌜ r ≡ length (view (now (self .entry)) .nodes) ⌝ }
+    {
+        self.engine.table().len()
+    }
+
     // How many orders a set has.
     pub fn count(&self, handle: Handle) -> Result<u64, Refusal>
         ensures reply { λ r. ⌜ r ≡ answered (handle-asked (view (now (self .entry))) handle) (count-of (view (now (self .entry)) .nodes) (handle .number)) ⌝ }
