@@ -1,29 +1,25 @@
 -- The code beside the rule: what remains to be done after each step. Assumes nothing.
-use mathlib.Core.Path.{_≡_, refl, sym, ap, _∙_, subst}
+use mathlib.Core.Path.{_≡_, sym, ap, _∙_, subst}
 use mathlib.Core.Bool.{Bool}
 use mathlib.Core.List.{List}
-use Prim.Native.Nat.{ℕ, _+_, _-_, _^_, min, _<_, _≤_}
+use Prim.Native.Nat.{ℕ, _+_, _-_, _^_, min}
 use native.Mathlib.Omega.{arith}
 use Rattle.std.specs.Results.{ErrBy}
-use Rattle.std.proofs.shelf.Results.{err-from-errBy}
 use Rattle.std.specs.declared.result.Result.{Result}
 use Rattle.std.specs.declared.result.Result.the-variants.{Ok, Err}
 use Rattle.orders.specs.declared.order.Order.{Order}
 use Rattle.orders.specs.declared.refusal.Refusal.{Refusal}
-use Rattle.orders.specs.declared.refusal.Refusal.the-variants.{NoRoom}
 use Rattle.orders.specs.Chains.{ChainLaws}
 use Rattle.diagrams.specs.declared.Node.{Node}
 use Rattle.diagrams.specs.declared.Task.{Task}
 use Rattle.diagrams.specs.Moves.{Moves}
-use Rattle.diagrams.specs.Table.{Extends, Sound}
-use Rattle.diagrams.specs.Rules.{Outcome, done, full, node, Asks, Made}
+use Rattle.diagrams.specs.Rules.{Outcome, node}
 use Rattle.diagrams.specs.Rules as Rules
 use Rattle.diagrams.specs.Script.{Script, answer, make, enter, go}
 use Rattle.diagrams.specs.Bodies.{body}
 use Rattle.diagrams.specs.Work.{Valid, Set, measure, task}
 use Rattle.diagrams.specs.Meets.{Meets}
 use Rattle.diagrams.proofs.Pushes.{node-makes}
-use Rattle.diagrams.proofs.Engine.{task-makes}
 use Rattle.diagrams.proofs.Owes.{meets}
 use Rattle.diagrams.proofs.Steps.{answer-runs, enter-runs, enter-full, make-runs, make-full}
 use Rattle.tables.specs.declared.table.Table.{Table}
@@ -32,54 +28,10 @@ use Rattle.tables.proofs.Rows.{sound-of}
 use Rattle.engine.specs.declared.found.Found.{Found}
 use Rattle.engine.specs.declared.plan.Plan.{Plan}
 use Rattle.engine.specs.declared.plan.Rest.{Rest}
-use Rattle.engine.specs.Plans.{rest-of, script}
-use Rattle.caches.specs.Recall.{Recalls}
-use Rattle.engine.specs.Kept.{Kept}
+use Rattle.engine.specs.declared.plan.Last.{Last}
+use Rattle.engine.specs.Plans.{last-of, rest-of, script}
 use Rattle.engine.specs.Answers.{Counts, As, Does}
-use Rattle.engine.proofs.Keeping.{kept-grown}
-
--- an answer of the code, as an equation on the rule
-module _ (B : Type 0) where
-  pub record Done (o : Outcome) (N : List Node) (j : Found) : Type 0 where
-    pub n : ℕ
-    pub is : o ≡ done N (j .number) n
-    pub counts : Counts B (j .entries) n
-
-  pub as-done : (o : Outcome) (N : List Node) (j : Found) → As B o N (Ok j) → Done o N j
-  as-done (done M s n) N j h = record {
-    n = n;
-    is = ap (λ X. done X s n) (sym (h .0)) ∙ ap (λ v. done N v n) (sym (h .1));
-    counts = h .2;
-  }
-  as-done (full M) N j h = absurd h
-
-  pub as-full : (o : Outcome) (N : List Node) (e : Refusal) → As B o N (Err e) → (o ≡ full N) × (e ≡ NoRoom)
-  as-full (done M s n) N e h = absurd h
-  as-full (full M) N e h = (ap full (sym (h .0)), h .1)
-
-  pub as-ok : {o : Outcome} {N : List Node} {j : Found} → Done o N j → As B o N (Ok j)
-  as-ok {o} {N} {j} d = subst (λ u. As B u N (Ok j)) (sym (d .is)) (refl, refl, d .counts)
-
-  -- a refusal that is passed on
-  pub as-err : {o : Outcome} {N : List Node} (e : Refusal) (r : Result Found Refusal) → ErrBy r (λ y. y ≡ e) → o ≡ full N → e ≡ NoRoom → As B o N r
-  as-err {o} {N} e (Ok j) t f x = absurd t
-  as-err {o} {N} e (Err y) t f x = subst (λ u. As B u N (Err y)) (sym f) (refl, t ∙ x)
-
-pub makes-done : (o : Outcome) (M : List Node) (n r : ℕ) → Makes o M n (Ok r) → o ≡ done M r n
-makes-done (done K s m) M n r h = ap (λ X. done X s m) (sym (h .0)) ∙ ap (λ v. done M v m) (sym (h .1)) ∙ ap (done M r) (h .2)
-makes-done (full K) M n r h = absurd h
-
-pub makes-full : (o : Outcome) (M : List Node) (n : ℕ) (e : Refusal) → Makes o M n (Err e) → (o ≡ full M) × (e ≡ NoRoom)
-makes-full (done K s m) M n e h = absurd h
-makes-full (full K) M n e h = (ap full (sym (h .0)), h .1)
-
--- entries added up, in 64 bits
-count-more : (B : Type 0) (e f a b k : ℕ) → Counts B e a → Counts B f b → k ≡ min (e + f) (2 ^ 64 - 1) → Counts B k (a + b)
-count-more B e f a b k p q is = record {
-  least = omega (arith, p .least, q .least);
-  most = omega (arith, p .most, q .most);
-  just = λ x. let y = p .just x in let z = q .just x in omega arith;
-}
+use Rattle.engine.proofs.Outcomes.{as-done, as-full, as-ok, as-err, makes-done, makes-full, count-more, solved-made}
 
 module _ (g : Moves) (laws : ChainLaws g) (cap : ℕ) (B : Type 0) where
   -- What is left of a piece of work w that goes less deep than m: the script s from the table T on, after e entries of the
@@ -90,10 +42,6 @@ module _ (g : Moves) (laws : ChainLaws g) (cap : ℕ) (B : Type 0) where
     pub counts : Counts B e n
     pub set : Order → Bool
     pub meets : Meets g set m (rows T) s
-
-  -- a task that is entered is answered with its set
-  made-of : (N : List Node) → Sound N → (t : Task) → Valid N t → (K : List Node) (j : Found) → (d : Done B (task g cap N t) K j) → Made g N (Set g N t) K (j .number)
-  made-of N S t v K j d = subst (Rules.Makes g cap N (Set g N t)) (d .is) (task-makes g laws cap N t S v)
 
   -- the rule of a task u, planned as p, on T
   module _ (T : Table) (u : Task) (p : Plan) (valid : Valid (rows T) u) (is : script p ≡ body g (rows T) u) where
@@ -113,7 +61,7 @@ module _ (g : Moves) (laws : ChainLaws g) (cap : ℕ) (B : Type 0) where
           is = ap (λ (s : Script). go cap (task g cap) (rows T) s 0) (sym is) ∙ enter-runs g cap (rows T) (p .low) (rest-of (p .rest)) 0 (rows K) (j .number) (d .n) (d .is) ∙ ap (go cap (task g cap) (rows K) (rest-of (p .rest) (j .number))) (zero-plus (d .n));
           counts = d .counts;
           set = Set g (rows T) u;
-          meets = first-meets .2 (rows K) (j .number) (made-of (rows T) (sound-of T) (p .low) (first-meets .0) (rows K) j d);
+          meets = first-meets .2 (rows K) (j .number) (solved-made g laws cap B (rows T) (sound-of T) (p .low) (first-meets .0) (rows K) j h);
         }
       where
         zero-plus : (n : ℕ) → 0 + n ≡ n
@@ -145,7 +93,7 @@ module _ {g : Moves} {laws : ChainLaws g} {cap : ℕ} {B : Type 0} {w : Outcome}
           is = a .is ∙ enter-runs g cap (rows T) t k (a .n) (rows K) (j .number) (d .n) (d .is);
           counts = count-more B e (j .entries) (a .n) (d .n) f (a .counts) (d .counts) q;
           set = a .set;
-          meets = a .meets .2 (rows K) (j .number) (made-of g laws cap B (rows T) (sound-of T) t (a .meets .0) (rows K) j d);
+          meets = a .meets .2 (rows K) (j .number) (solved-made g laws cap B (rows T) (sound-of T) t (a .meets .0) (rows K) j h);
         }
 
     -- or refused
@@ -153,6 +101,11 @@ module _ {g : Moves} {laws : ChainLaws g} {cap : ℕ} {B : Type 0} {w : Outcome}
     refused K x h r i =
         let f = as-full B _ (rows K) x h in
         as-err B x r i (a .is ∙ enter-full g cap (rows T) t k (a .n) (rows K) (f .0)) (f .1)
+
+  -- the second task of a plan was answered
+  pub second : {t : Task} {last end : Last} → last ≡ end → (r : ℕ) → Along g laws cap B w m T (enter t (last-of last r)) e → (K : Table) (j : Found)
+      → As B (task g cap (rows T) t) (rows K) (Ok j) → {f : ℕ} → f ≡ min (e + j .entries) (2 ^ 64 - 1) → Along g laws cap B w m K (last-of end r (j .number)) f
+  second q r a K j h {f} p = subst (λ (x : Last). Along g laws cap B w m K (last-of x r (j .number)) f) q (entered a K j h p)
 
   module _ {x y lo hi : ℕ} {k : ℕ → Script} (a : Along g laws cap B w m T (make x y lo hi k) e) where
     -- a node was made
@@ -188,17 +141,6 @@ module _ (g : Moves) (cap : ℕ) (B : Type 0) (N : List Node) (x y lo hi : ℕ) 
   node-refused z h r i =
       let f = makes-full _ (rows K) n z (h n) in
       as-err B z r i (make-full g cap N x y lo hi answer n (rows K) (f .0)) (f .1)
-
--- a node found or made, or refused: what is remembered stays right
-module _ (g : Moves) (laws : ChainLaws g) (cap : ℕ) (T K : Table) where
-  grown : (P : Order → Bool) (o : Outcome) (n : ℕ) (r : Result ℕ Refusal) → Rules.Makes g cap (rows T) P o → Makes o (rows K) n r → Extends (rows T) (rows K)
-  grown P (done M s m) n (Ok v) a h = subst (Extends (rows T)) (sym (h .0)) (a .extends)
-  grown P (done M s m) n (Err e) a h = absurd h
-  grown P (full M) n (Ok v) a h = absurd h
-  grown P (full M) n (Err e) a h = subst (Extends (rows T)) (sym (h .0)) (a .extends)
-
-  pub node-kept : (rc : Recalls) (x y lo hi : ℕ) (r : Result ℕ Refusal) → Asks (rows T) x y lo hi → Makes (node cap (rows T) x y lo hi 0) (rows K) 0 r → Kept g cap (rows T) rc → Kept g cap (rows K) rc
-  node-kept rc x y lo hi r a h k = kept-grown g cap (rows T) rc k laws (rows K) (sound-of T) (sound-of K) (grown _ _ 0 r (node-makes g cap (rows T) (sound-of T) x y lo hi 0 a) h)
 
 -- a join, as the end of a rule
 module _ (g : Moves) (cap : ℕ) (B : Type 0) (N : List Node) (t : Task) (K : Table) (e n : ℕ) (c : Counts B e n) where

@@ -1,25 +1,35 @@
 -- What is remembered stays right: as the table grows, and as the cache is told. Assumes nothing.
 use mathlib.Core.Path.{_≡_, sym, ap, _∙_, subst}
-use mathlib.Core.List.{List, []}
-use mathlib.Core.Logic.{_⊎_, ⊎-elim}
+use mathlib.Core.Bool.{Bool}
+use mathlib.Core.List.{List}
+use mathlib.Core.Logic.{⊎-elim}
 use Prim.Native.Nat.{ℕ, _≤_}
 use native.Mathlib.Omega.{arith}
 use Rattle.std.proofs.shelf.Tests.{cases-eq}
 use Rattle.std.specs.declared.option.Option.{Option}
 use Rattle.std.specs.declared.option.Option.the-variants.{Some, None}
+use Rattle.std.specs.declared.result.Result.{Result}
+use Rattle.std.specs.declared.result.Result.the-variants.{Ok, Err}
+use Rattle.orders.specs.declared.order.Order.{Order}
+use Rattle.orders.specs.declared.refusal.Refusal.{Refusal}
 use Rattle.orders.specs.Chains.{ChainLaws}
 use Rattle.caches.specs.Recall.{Recalls, Told, Emptied}
 use Rattle.diagrams.specs.declared.Node.{Node}
 use Rattle.diagrams.specs.declared.Task.{Task}
 use Rattle.diagrams.specs.Moves.{Moves}
 use Rattle.diagrams.specs.Table.{Extends, Sound}
-use Rattle.diagrams.specs.Rules.{done}
+use Rattle.diagrams.specs.Rules.{Outcome, done, full, node, Asks}
+use Rattle.diagrams.specs.Rules as Rules
 use Rattle.diagrams.specs.Bodies.{first-of}
 use Rattle.diagrams.specs.Work.{Valid, task}
 use Rattle.diagrams.specs.Outright.{kind-of, right-of}
 use Rattle.diagrams.proofs.Rows.{still-valid}
 use Rattle.diagrams.proofs.Engine.{AtLeast, task-stable, task-least}
 use Rattle.diagrams.proofs.Keys.{key-tells}
+use Rattle.diagrams.proofs.Pushes.{node-makes}
+use Rattle.tables.specs.declared.table.Table.{Table}
+use Rattle.tables.specs.Rows.{rows, Makes}
+use Rattle.tables.proofs.Rows.{sound-of}
 use Rattle.engine.specs.Kept.{Right, Kept}
 
 pub never : (o : Option ℕ) (r : ℕ) → o ≡ Some r → o ≡ None → ⊥
@@ -86,3 +96,14 @@ module _ (g : Moves) (cap : ℕ) (N : List Node) (rc : Recalls) where
         let same : w .of ≡ u = key-tells N N (w .of) u (w .valid) v (w .kind) (w .left) (w .right) in
         let is : task g cap N u ≡ done N r (w .entries) = ap (task g cap N) (sym same) ∙ w .answer in
         record { n = w .entries; is = is; some = subst (AtLeast 1) is (task-least g laws cap N u S v) }
+
+-- a node found or made, or refused: what is remembered stays right
+module _ (g : Moves) (laws : ChainLaws g) (cap : ℕ) (T K : Table) where
+  grown : (P : Order → Bool) (o : Outcome) (n : ℕ) (r : Result ℕ Refusal) → Rules.Makes g cap (rows T) P o → Makes o (rows K) n r → Extends (rows T) (rows K)
+  grown P (done M s m) n (Ok v) a h = subst (Extends (rows T)) (sym (h .0)) (a .extends)
+  grown P (done M s m) n (Err e) a h = absurd h
+  grown P (full M) n (Ok v) a h = absurd h
+  grown P (full M) n (Err e) a h = subst (Extends (rows T)) (sym (h .0)) (a .extends)
+
+  pub node-kept : (rc : Recalls) (x y lo hi : ℕ) (r : Result ℕ Refusal) → Asks (rows T) x y lo hi → Makes (node cap (rows T) x y lo hi 0) (rows K) 0 r → Kept g cap (rows T) rc → Kept g cap (rows K) rc
+  node-kept rc x y lo hi r a h k = kept-grown g cap (rows T) rc k laws (rows K) (sound-of T) (sound-of K) (grown _ _ 0 r (node-makes g cap (rows T) (sound-of T) x y lo hi 0 a) h)

@@ -1,5 +1,6 @@
+pub mod Outcomes
+pub mod Keeping
 mod Tests
 mod Readings
-mod Keeping
 mod Along
 mod Solving

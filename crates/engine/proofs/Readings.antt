@@ -1,11 +1,11 @@
 -- The rule of each kind, by the rows that were read. Assumes nothing.
 use mathlib.Core.Path.{_≡_, sym, ap, _∙_, fun-ext}
-use mathlib.Core.Bool.{Bool, true, false}
+use mathlib.Core.Bool.{false}
 use Prim.Native.Nat.{ℕ, _<_, _≤_}
 use lib.Dec.{eqb, ltb}
 use borrow.Author.Tests.{lt-ltb, le-ltb, eq-eqb, ne-eqb}
 use Rattle.orders.specs.declared.order.Order.{Order}
-use Rattle.orders.specs.Orders.{place, then, inverse}
+use Rattle.orders.specs.Orders.{place}
 use Rattle.orders.specs.Dimension.{dimension}
 use Rattle.diagrams.specs.declared.Node.{Node}
 use Rattle.diagrams.specs.declared.Side.{Side}

@@ -1,6 +1,5 @@
 -- A task by its rule: outright, as it is remembered, or worked and told. Assumes nothing.
 use mathlib.Core.Path.{_≡_, refl, sym, ap, _∙_, subst}
-use mathlib.Core.List.{List}
 use Prim.Native.Nat.{ℕ, _+_, _-_, _^_, min}
 use native.Mathlib.Omega.{arith}
 use Rattle.std.specs.Results.{ErrBy}
@@ -32,7 +31,7 @@ use Rattle.engine.specs.Triples.{triple}
 use Rattle.engine.specs.Kept.{Kept}
 use Rattle.engine.specs.Answers.{As, Once}
 use Rattle.engine.proofs.Keeping.{never, kept-told, known}
-use Rattle.engine.proofs.Along.{as-done, as-full, as-ok, as-err}
+use Rattle.engine.proofs.Outcomes.{as-done, as-full, as-ok, as-err}
 
 pub once-one : (o : Option ℕ) (v : ℕ) → Once o (Ok (record { number = v; entries = 1 }))
 once-one None v = tt

@@ -17,6 +17,7 @@ ghost use Rattle.engine.specs.Answers.{As, Does, Forgets, Once};
 use super::found::Found;
 use super::outright::key;
 use super::outright::outright;
+use super::plan::Last;
 use super::plan::Rest;
 use super::planning::plan;
 use super::room::Room;
@@ -54,6 +55,16 @@ impl<G: Chain, C: Cache> Engine<G, C> {
         ensures { λ r. ⌜ now r ≡ now (self .entry) .table ⌝ }
     {
         &self.table
+    }
+
+    // Another table stands in the place of this one, and the cache forgets what it knew.
+    pub fn replace(&mut self, fresh: Table)
+        ensures table { λ _. ⌜ now (self .exit) .table ≡ fresh ⌝ }
+        ensures emptied { λ _. ⌜ Emptied (recalls (now (self .exit) .cache)) ⌝ }
+        ensures kept { λ _. ⌜ ((nodes : ℕ) → Kept table nodes (rows (now (self .exit) .table)) (recalls (now (self .exit) .cache))) ⌝ }
+    {
+        self.table = fresh;
+        self.cache.empty();
     }
 
     // The number of the node with these four values, which is made if there is none and there is room.
@@ -106,29 +117,22 @@ impl<G: Chain, C: Cache> Engine<G, C> {
             Rest::Pass => Ok(low),
             Rest::Over(x, y, hi) => self.made(room, x, y, low.number, hi, low.entries),
             Rest::Lift(x, y) => self.made(room, x, y, 0, low.number, low.entries),
-            Rest::Both(task, x, y) => {
+            Rest::Then(task, last) => {
                 let high = self.solve(room, task)?;
                 let entries = low.entries.saturating_add(high.entries);
-                self.made(room, x, y, low.number, high.number, entries)
-            }
-            Rest::Join(task) => {
-                let high = self.solve(room, task)?;
-                let entries = low.entries.saturating_add(high.entries);
-                self.joined(room, low.number, high.number, entries)
-            }
-            Rest::Raise(task, x, y) => {
-                let high = self.solve(room, task)?;
-                let entries = low.entries.saturating_add(high.entries);
-                let top = self.add(room, x, y, 0, high.number)?;
-                self.joined(room, low.number, top, entries)
-            }
-            Rest::Move(task, order) => {
-                let high = self.solve(room, task)?;
-                let moved = self.solve(room, Task::Carry(high.number, order))?;
-                let entries = low.entries
-                    .saturating_add(high.entries)
-                    .saturating_add(moved.entries);
-                self.joined(room, low.number, moved.number, entries)
+                match last {
+                    Last::Both(x, y) => self.made(room, x, y, low.number, high.number, entries),
+                    Last::Join => self.joined(room, low.number, high.number, entries),
+                    Last::Raise(x, y) => {
+                        let top = self.add(room, x, y, 0, high.number)?;
+                        self.joined(room, low.number, top, entries)
+                    }
+                    Last::Move(order) => {
+                        let moved = self.solve(room, Task::Carry(high.number, order))?;
+                        let entries = entries.saturating_add(moved.entries);
+                        self.joined(room, low.number, moved.number, entries)
+                    }
+                }
             }
         }
     }

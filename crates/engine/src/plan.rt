@@ -18,12 +18,19 @@ pub enum Rest {
     Over(u8, u8, u32),
     // it is the high part of the node of x and y whose low part is empty
     Lift(u8, u8),
-    // it is the low part of the node of x and y, and the answer of one more task is the high part
-    Both(Task, u8, u8),
-    // the answer of one more task is joined to it
-    Join(Task),
-    // the answer of one more task, made the high part of a node of x and y, is joined to it
-    Raise(Task, u8, u8),
-    // the answer of one more task, carried by the order, is joined to it
-    Move(Task, Order),
+    // one more task is entered
+    Then(Task, Last),
+}
+
+// What is done with the two answers.
+#[derive(Clone, Copy)]
+pub enum Last {
+    // they are the parts of the node of x and y
+    Both(u8, u8),
+    // they are joined
+    Join,
+    // the second is made the high part of the node of x and y, and joined to the first
+    Raise(u8, u8),
+    // the second is carried by the order, and joined to the first
+    Move(Order),
 }

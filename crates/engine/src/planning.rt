@@ -12,6 +12,7 @@ ghost use Rattle.diagrams.specs.Work.{Valid};
 ghost use Rattle.diagrams.specs.Outright.{outright as outrightOf};
 ghost use Rattle.tables.specs.Rows.{rows};
 ghost use Rattle.engine.specs.Plans.{rest-of, script};
+use super::plan::Last;
 use super::plan::Plan;
 use super::plan::Rest;
 use diagrams::Side;
@@ -47,7 +48,7 @@ fn join(nodes: &Table, a: u32, b: u32) -> Plan
     match nodes.side(a, b) {
         Side::Level => Plan {
             low: Task::Join(p.lo, q.lo),
-            rest: Rest::Both(Task::Join(p.hi, q.hi), p.x, p.y),
+            rest: Rest::Then(Task::Join(p.hi, q.hi), Last::Both(p.x, p.y)),
         },
         Side::Above => Plan {
             low: Task::Join(p.lo, b),
@@ -71,7 +72,7 @@ fn meet(nodes: &Table, a: u32, b: u32) -> Plan
     match nodes.side(a, b) {
         Side::Level => Plan {
             low: Task::Meet(p.lo, q.lo),
-            rest: Rest::Both(Task::Meet(p.hi, q.hi), p.x, p.y),
+            rest: Rest::Then(Task::Meet(p.hi, q.hi), Last::Both(p.x, p.y)),
         },
         Side::Above => Plan {
             low: Task::Meet(p.lo, b),
@@ -95,7 +96,7 @@ fn without(nodes: &Table, a: u32, b: u32) -> Plan
     match nodes.side(a, b) {
         Side::Level => Plan {
             low: Task::Without(p.lo, q.lo),
-            rest: Rest::Both(Task::Without(p.hi, q.hi), p.x, p.y),
+            rest: Rest::Then(Task::Without(p.hi, q.hi), Last::Both(p.x, p.y)),
         },
         Side::Above => Plan {
             low: Task::Without(p.lo, b),
@@ -117,7 +118,7 @@ fn pick<G: Chain>(nodes: &Table, a: u32, k: u8, p: u8) -> Plan
     let from = G::step(node.x, node.y).inverse().place(p);
     Plan {
         low: Task::Pick(node.lo, k, p),
-        rest: Rest::Both(Task::Pick(node.hi, k, from), node.x, node.y),
+        rest: Rest::Then(Task::Pick(node.hi, k, from), Last::Both(node.x, node.y)),
     }
 }
 
@@ -129,7 +130,7 @@ fn follow<G: Chain>(nodes: &Table, a: u32, b: u32) -> Plan
     let q = nodes.get(b);
     Plan {
         low: Task::Follow(a, q.lo),
-        rest: Rest::Move(Task::Follow(a, q.hi), G::step(q.x, q.y)),
+        rest: Rest::Then(Task::Follow(a, q.hi), Last::Move(G::step(q.x, q.y))),
     }
 }
 
@@ -160,8 +161,8 @@ fn upper<G: Chain>(x: u8, hi: u32, k: Order) -> Rest
 {
     let z = k.place(x);
     if z == x {
-        return Rest::Join(Task::Carry(hi, k));
+        return Rest::Then(Task::Carry(hi, k), Last::Join);
     }
     let order = k.then(G::step(x, z).inverse());
-    Rest::Raise(Task::Carry(hi, order), x, z)
+    Rest::Then(Task::Carry(hi, order), Last::Raise(x, z))
 }

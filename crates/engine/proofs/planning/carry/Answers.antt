@@ -1,4 +1,4 @@
-use mathlib.Core.Path.{_≡_, ap, _∙_}
+use mathlib.Core.Path.{ap, _∙_}
 use Rattle.orders.specs.declared.order.Order.{Order}
 use Rattle.orders.specs.Orders.{then, inverse}
 use Rattle.engine.specs.Plans.{rest-of}

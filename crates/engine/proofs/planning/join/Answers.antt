@@ -1,4 +1,4 @@
-use mathlib.Core.Path.{_≡_, sym, _∙_}
+use mathlib.Core.Path.{sym, _∙_}
 use mathlib.Core.Bool.{false}
 use Rattle.diagrams.specs.Bodies.{join-body}
 use Rattle.engine.proofs.Readings.{read-two}

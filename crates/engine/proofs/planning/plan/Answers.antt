@@ -1,4 +1,4 @@
-use mathlib.Core.Path.{_≡_, sym, ap, _∙_}
+use mathlib.Core.Path.{sym, ap, _∙_}
 use Rattle.diagrams.specs.Bodies.{body}
 use Rattle.diagrams.specs.Outright.{outright}
 use Rattle.diagrams.proofs.Outrights.{join-works, meet-works, without-works, carry-works, follow-works, pick-works}

@@ -1,4 +1,4 @@
-use mathlib.Core.Path.{_≡_, ap, _∙_}
+use mathlib.Core.Path.{ap, _∙_}
 use Rattle.orders.specs.Orders.{then, inverse}
 use Rattle.engine.proofs.Readings.{read-stay, read-move}
 use Rattle.engine.proofs.planning.upper.Needs as need

@@ -1,6 +1,5 @@
 -- The ring of the engine. Each answer is one step along a plan.
-use mathlib.Core.Path.{_≡_, refl, sym, _∙_}
-use Prim.Native.Nat.{_+_, _-_, _^_, min}
+use mathlib.Core.Path.{sym}
 use native.Mathlib.Omega.{arith}
 use Rattle.std.proofs.shelf.Results.{made-from-err}
 use Rattle.orders.specs.Chains.{ChainLaws}
@@ -9,7 +8,7 @@ use Rattle.diagrams.specs.Moves.{Moves}
 use Rattle.tables.specs.Rows.{rows}
 use Rattle.engine.specs.Answers.{Forgets}
 use Rattle.engine.proofs.Keeping.{never}
-use Rattle.engine.proofs.Along.{first-meets, opened, closed, ended, handed, entered, refused, added, declined, task-answered, task-refused}
+use Rattle.engine.proofs.Along.{first-meets, opened, closed, ended, handed, entered, second, refused, added, declined, task-answered, task-refused}
 use Rattle.engine.proofs.Solving.{once-one, once-none, asked, told-of, solved-outright, solved-known, refused-worked, solved-worked, kept-worked}
 use Rattle.engine.proofs.engine.Engine.+joined+solve+work.Given.{Over}
 use Rattle.engine.proofs.engine.Engine.+joined+solve+work.Needs as need
@@ -134,103 +133,81 @@ work-returns-in-Lift g t c =
     in
     record { kept = c .made-in-Lift .ensures .kept; rule = handed a (c .made-in-Lift .last .self .table) _ (c .made-in-Lift .ensures .rule) }
 
-pub work-solve-requires-in-Both : need.work-solve-requires-in-Both
-work-solve-requires-in-Both g t c κs within =
+pub work-solve-requires-in-Then : need.work-solve-requires-in-Then
+work-solve-requires-in-Then g t c κs within =
     let a = opened (moves g) (laws g) (c .args .room .nodes) (blank g) (c .args .self .now .table) (c .args .task) (c .plan-plan .result) (c .pre .valid) (c .plan-plan .ensures)
-    (c .solve .last .self .table) (c .in-Continue-low .low) (c .in-Continue-low .ensures tt .rule) (c .in-Both .is)
+    (c .solve .last .self .table) (c .in-Continue-low .low) (c .in-Continue-low .ensures tt .rule) (c .in-Then .is)
     in
     (omega (arith, a .meets .1), (within .0, (within .1, (a .meets .0, c .solve .ensures .kept))))
 
 pub work-returns-in-Break-high : need.work-returns-in-Break-high
 work-returns-in-Break-high g t c =
     let a = opened (moves g) (laws g) (c .args .room .nodes) (blank g) (c .args .self .now .table) (c .args .task) (c .plan-plan .result) (c .pre .valid) (c .plan-plan .ensures)
-    (c .solve .last .self .table) (c .in-Continue-low .low) (c .in-Continue-low .ensures tt .rule) (c .in-Both .is)
+    (c .solve .last .self .table) (c .in-Continue-low .low) (c .in-Continue-low .ensures tt .rule) (c .in-Then .is)
     in
     record {
-      kept = c .solve-in-Both .ensures .kept;
-      rule = refused a (c .solve-in-Both .last .self .table) (c .in-Break-high .field-0 .0) (c .in-Break-high .ensures tt .rule) (c .from-residual-in-Break-high .result) (c .from-residual-in-Break-high .ensures .1);
+      kept = c .solve-in-Then .ensures .kept;
+      rule = refused a (c .solve-in-Then .last .self .table) (c .in-Break-high .field-0 .0) (c .in-Break-high .ensures tt .rule) (c .from-residual-in-Break-high .result) (c .from-residual-in-Break-high .ensures .1);
     }
 
 pub work-made-requires-in-Both : need.work-made-requires-in-Both
 work-made-requires-in-Both g t c κs =
     let a = opened (moves g) (laws g) (c .args .room .nodes) (blank g) (c .args .self .now .table) (c .args .task) (c .plan-plan .result) (c .pre .valid) (c .plan-plan .ensures)
-    (c .solve .last .self .table) (c .in-Continue-low .low) (c .in-Continue-low .ensures tt .rule) (c .in-Both .is)
+    (c .solve .last .self .table) (c .in-Continue-low .low) (c .in-Continue-low .ensures tt .rule) (c .in-Then .is)
     in
-    let b = entered a (c .solve-in-Both .last .self .table) (c .in-Continue-high .high) (c .in-Continue-high .ensures tt .rule) (c .saturating-add-entries .ensures) in
-    record { asks = b .meets .0; kept = c .solve-in-Both .ensures .kept }
+    let b = second (c .in-Both .is) (c .in-Continue-low .low .number) a (c .solve-in-Then .last .self .table) (c .in-Continue-high .high) (c .in-Continue-high .ensures tt .rule)
+    (c .saturating-add-entries .ensures)
+    in
+    record { asks = b .meets .0; kept = c .solve-in-Then .ensures .kept }
 
-pub work-returns-in-Continue-high : need.work-returns-in-Continue-high
-work-returns-in-Continue-high g t c =
+pub work-returns-in-Both : need.work-returns-in-Both
+work-returns-in-Both g t c =
     let a = opened (moves g) (laws g) (c .args .room .nodes) (blank g) (c .args .self .now .table) (c .args .task) (c .plan-plan .result) (c .pre .valid) (c .plan-plan .ensures)
-    (c .solve .last .self .table) (c .in-Continue-low .low) (c .in-Continue-low .ensures tt .rule) (c .in-Both .is)
+    (c .solve .last .self .table) (c .in-Continue-low .low) (c .in-Continue-low .ensures tt .rule) (c .in-Then .is)
     in
-    let b = entered a (c .solve-in-Both .last .self .table) (c .in-Continue-high .high) (c .in-Continue-high .ensures tt .rule) (c .saturating-add-entries .ensures) in
+    let b = second (c .in-Both .is) (c .in-Continue-low .low .number) a (c .solve-in-Then .last .self .table) (c .in-Continue-high .high) (c .in-Continue-high .ensures tt .rule)
+    (c .saturating-add-entries .ensures)
+    in
     record { kept = c .made-in-Both .ensures .kept; rule = handed b (c .made-in-Both .last .self .table) _ (c .made-in-Both .ensures .rule) }
-
-pub work-solve-requires-in-Join : need.work-solve-requires-in-Join
-work-solve-requires-in-Join g t c κs within =
-    let a = opened (moves g) (laws g) (c .args .room .nodes) (blank g) (c .args .self .now .table) (c .args .task) (c .plan-plan .result) (c .pre .valid) (c .plan-plan .ensures)
-    (c .solve .last .self .table) (c .in-Continue-low .low) (c .in-Continue-low .ensures tt .rule) (c .in-Join .is)
-    in
-    (omega (arith, a .meets .1), (within .0, (within .1, (a .meets .0, c .solve .ensures .kept))))
-
-pub work-returns-in-Break-high-2 : need.work-returns-in-Break-high-2
-work-returns-in-Break-high-2 g t c =
-    let a = opened (moves g) (laws g) (c .args .room .nodes) (blank g) (c .args .self .now .table) (c .args .task) (c .plan-plan .result) (c .pre .valid) (c .plan-plan .ensures)
-    (c .solve .last .self .table) (c .in-Continue-low .low) (c .in-Continue-low .ensures tt .rule) (c .in-Join .is)
-    in
-    record {
-      kept = c .solve-in-Join .ensures .kept;
-      rule = refused a (c .solve-in-Join .last .self .table) (c .in-Break-high-2 .field-0 .0) (c .in-Break-high-2 .ensures tt .rule) (c .from-residual-in-Break-high-2 .result) (c .from-residual-in-Break-high-2 .ensures .1);
-    }
 
 pub work-joined-requires : need.work-joined-requires
 work-joined-requires g t c κs within =
     let a = opened (moves g) (laws g) (c .args .room .nodes) (blank g) (c .args .self .now .table) (c .args .task) (c .plan-plan .result) (c .pre .valid) (c .plan-plan .ensures)
-    (c .solve .last .self .table) (c .in-Continue-low .low) (c .in-Continue-low .ensures tt .rule) (c .in-Join .is)
+    (c .solve .last .self .table) (c .in-Continue-low .low) (c .in-Continue-low .ensures tt .rule) (c .in-Then .is)
     in
-    let b = entered a (c .solve-in-Join .last .self .table) (c .in-Continue-high-2 .high) (c .in-Continue-high-2 .ensures tt .rule) (c .saturating-add-entries-in-Join .ensures) in
-    (omega (arith, b .meets .1), (within .0, (within .1, (b .meets .0, c .solve-in-Join .ensures .kept))))
+    let b = second (c .in-Join .is) (c .in-Continue-low .low .number) a (c .solve-in-Then .last .self .table) (c .in-Continue-high .high) (c .in-Continue-high .ensures tt .rule)
+    (c .saturating-add-entries .ensures)
+    in
+    (omega (arith, b .meets .1), (within .0, (within .1, (b .meets .0, c .solve-in-Then .ensures .kept))))
 
-pub work-returns-in-Continue-high-2 : need.work-returns-in-Continue-high-2
-work-returns-in-Continue-high-2 g t c =
+pub work-returns-in-Join : need.work-returns-in-Join
+work-returns-in-Join g t c =
     let a = opened (moves g) (laws g) (c .args .room .nodes) (blank g) (c .args .self .now .table) (c .args .task) (c .plan-plan .result) (c .pre .valid) (c .plan-plan .ensures)
-    (c .solve .last .self .table) (c .in-Continue-low .low) (c .in-Continue-low .ensures tt .rule) (c .in-Join .is)
+    (c .solve .last .self .table) (c .in-Continue-low .low) (c .in-Continue-low .ensures tt .rule) (c .in-Then .is)
     in
-    let b = entered a (c .solve-in-Join .last .self .table) (c .in-Continue-high-2 .high) (c .in-Continue-high-2 .ensures tt .rule) (c .saturating-add-entries-in-Join .ensures) in
+    let b = second (c .in-Join .is) (c .in-Continue-low .low .number) a (c .solve-in-Then .last .self .table) (c .in-Continue-high .high) (c .in-Continue-high .ensures tt .rule)
+    (c .saturating-add-entries .ensures)
+    in
     record { kept = c .joined .ensures .kept; rule = handed b (c .joined .last .self .table) _ (c .joined .ensures .rule) }
-
-pub work-solve-requires-in-Raise : need.work-solve-requires-in-Raise
-work-solve-requires-in-Raise g t c κs within =
-    let a = opened (moves g) (laws g) (c .args .room .nodes) (blank g) (c .args .self .now .table) (c .args .task) (c .plan-plan .result) (c .pre .valid) (c .plan-plan .ensures)
-    (c .solve .last .self .table) (c .in-Continue-low .low) (c .in-Continue-low .ensures tt .rule) (c .in-Raise .is)
-    in
-    (omega (arith, a .meets .1), (within .0, (within .1, (a .meets .0, c .solve .ensures .kept))))
-
-pub work-returns-in-Break-high-3 : need.work-returns-in-Break-high-3
-work-returns-in-Break-high-3 g t c =
-    let a = opened (moves g) (laws g) (c .args .room .nodes) (blank g) (c .args .self .now .table) (c .args .task) (c .plan-plan .result) (c .pre .valid) (c .plan-plan .ensures)
-    (c .solve .last .self .table) (c .in-Continue-low .low) (c .in-Continue-low .ensures tt .rule) (c .in-Raise .is)
-    in
-    record {
-      kept = c .solve-in-Raise .ensures .kept;
-      rule = refused a (c .solve-in-Raise .last .self .table) (c .in-Break-high-3 .field-0 .0) (c .in-Break-high-3 .ensures tt .rule) (c .from-residual-in-Break-high-3 .result) (c .from-residual-in-Break-high-3 .ensures .1);
-    }
 
 pub work-add-requires : need.work-add-requires
 work-add-requires g t c κs =
     let a = opened (moves g) (laws g) (c .args .room .nodes) (blank g) (c .args .self .now .table) (c .args .task) (c .plan-plan .result) (c .pre .valid) (c .plan-plan .ensures)
-    (c .solve .last .self .table) (c .in-Continue-low .low) (c .in-Continue-low .ensures tt .rule) (c .in-Raise .is)
+    (c .solve .last .self .table) (c .in-Continue-low .low) (c .in-Continue-low .ensures tt .rule) (c .in-Then .is)
     in
-    let b = entered a (c .solve-in-Raise .last .self .table) (c .in-Continue-high-3 .high) (c .in-Continue-high-3 .ensures tt .rule) (c .saturating-add-entries-in-Raise .ensures) in
-    record { asks = b .meets .0; kept = c .solve-in-Raise .ensures .kept }
+    let b = second (c .in-Raise .is) (c .in-Continue-low .low .number) a (c .solve-in-Then .last .self .table) (c .in-Continue-high .high) (c .in-Continue-high .ensures tt .rule)
+    (c .saturating-add-entries .ensures)
+    in
+    record { asks = b .meets .0; kept = c .solve-in-Then .ensures .kept }
 
 pub work-returns-in-Break-top : need.work-returns-in-Break-top
 work-returns-in-Break-top g t c =
     let a = opened (moves g) (laws g) (c .args .room .nodes) (blank g) (c .args .self .now .table) (c .args .task) (c .plan-plan .result) (c .pre .valid) (c .plan-plan .ensures)
-    (c .solve .last .self .table) (c .in-Continue-low .low) (c .in-Continue-low .ensures tt .rule) (c .in-Raise .is)
+    (c .solve .last .self .table) (c .in-Continue-low .low) (c .in-Continue-low .ensures tt .rule) (c .in-Then .is)
     in
-    let b = entered a (c .solve-in-Raise .last .self .table) (c .in-Continue-high-3 .high) (c .in-Continue-high-3 .ensures tt .rule) (c .saturating-add-entries-in-Raise .ensures) in
+    let b = second (c .in-Raise .is) (c .in-Continue-low .low .number) a (c .solve-in-Then .last .self .table) (c .in-Continue-high .high) (c .in-Continue-high .ensures tt .rule)
+    (c .saturating-add-entries .ensures)
+    in
     record {
       kept = c .add .ensures .kept;
       rule = declined b (c .add .last .self .table) (c .in-Break-top .field-0 .0) (c .in-Break-top .ensures tt .rule) (c .from-residual-in-Break-top .result) (c .from-residual-in-Break-top .ensures .1);
@@ -239,71 +216,66 @@ work-returns-in-Break-top g t c =
 pub work-joined-requires-in-Raise : need.work-joined-requires-in-Raise
 work-joined-requires-in-Raise g t c κs within =
     let a = opened (moves g) (laws g) (c .args .room .nodes) (blank g) (c .args .self .now .table) (c .args .task) (c .plan-plan .result) (c .pre .valid) (c .plan-plan .ensures)
-    (c .solve .last .self .table) (c .in-Continue-low .low) (c .in-Continue-low .ensures tt .rule) (c .in-Raise .is)
+    (c .solve .last .self .table) (c .in-Continue-low .low) (c .in-Continue-low .ensures tt .rule) (c .in-Then .is)
     in
-    let b = entered a (c .solve-in-Raise .last .self .table) (c .in-Continue-high-3 .high) (c .in-Continue-high-3 .ensures tt .rule) (c .saturating-add-entries-in-Raise .ensures) in
+    let b = second (c .in-Raise .is) (c .in-Continue-low .low .number) a (c .solve-in-Then .last .self .table) (c .in-Continue-high .high) (c .in-Continue-high .ensures tt .rule)
+    (c .saturating-add-entries .ensures)
+    in
     let d = added b (c .add .last .self .table) (c .in-Continue-top .top) (c .in-Continue-top .ensures tt .rule) in
     (omega (arith, d .meets .1), (within .0, (within .1, (d .meets .0, c .add .ensures .kept))))
 
 pub work-returns-in-Continue-top : need.work-returns-in-Continue-top
 work-returns-in-Continue-top g t c =
     let a = opened (moves g) (laws g) (c .args .room .nodes) (blank g) (c .args .self .now .table) (c .args .task) (c .plan-plan .result) (c .pre .valid) (c .plan-plan .ensures)
-    (c .solve .last .self .table) (c .in-Continue-low .low) (c .in-Continue-low .ensures tt .rule) (c .in-Raise .is)
+    (c .solve .last .self .table) (c .in-Continue-low .low) (c .in-Continue-low .ensures tt .rule) (c .in-Then .is)
     in
-    let b = entered a (c .solve-in-Raise .last .self .table) (c .in-Continue-high-3 .high) (c .in-Continue-high-3 .ensures tt .rule) (c .saturating-add-entries-in-Raise .ensures) in
+    let b = second (c .in-Raise .is) (c .in-Continue-low .low .number) a (c .solve-in-Then .last .self .table) (c .in-Continue-high .high) (c .in-Continue-high .ensures tt .rule)
+    (c .saturating-add-entries .ensures)
+    in
     let d = added b (c .add .last .self .table) (c .in-Continue-top .top) (c .in-Continue-top .ensures tt .rule) in
     record { kept = c .joined-in-Raise .ensures .kept; rule = handed d (c .joined-in-Raise .last .self .table) _ (c .joined-in-Raise .ensures .rule) }
 
 pub work-solve-requires-in-Move : need.work-solve-requires-in-Move
 work-solve-requires-in-Move g t c κs within =
     let a = opened (moves g) (laws g) (c .args .room .nodes) (blank g) (c .args .self .now .table) (c .args .task) (c .plan-plan .result) (c .pre .valid) (c .plan-plan .ensures)
-    (c .solve .last .self .table) (c .in-Continue-low .low) (c .in-Continue-low .ensures tt .rule) (c .in-Move .is)
+    (c .solve .last .self .table) (c .in-Continue-low .low) (c .in-Continue-low .ensures tt .rule) (c .in-Then .is)
     in
-    (omega (arith, a .meets .1), (within .0, (within .1, (a .meets .0, c .solve .ensures .kept))))
-
-pub work-returns-in-Break-high-4 : need.work-returns-in-Break-high-4
-work-returns-in-Break-high-4 g t c =
-    let a = opened (moves g) (laws g) (c .args .room .nodes) (blank g) (c .args .self .now .table) (c .args .task) (c .plan-plan .result) (c .pre .valid) (c .plan-plan .ensures)
-    (c .solve .last .self .table) (c .in-Continue-low .low) (c .in-Continue-low .ensures tt .rule) (c .in-Move .is)
+    let b = second (c .in-Move .is) (c .in-Continue-low .low .number) a (c .solve-in-Then .last .self .table) (c .in-Continue-high .high) (c .in-Continue-high .ensures tt .rule)
+    (c .saturating-add-entries .ensures)
     in
-    record {
-      kept = c .solve-in-Move .ensures .kept;
-      rule = refused a (c .solve-in-Move .last .self .table) (c .in-Break-high-4 .field-0 .0) (c .in-Break-high-4 .ensures tt .rule) (c .from-residual-in-Break-high-4 .result) (c .from-residual-in-Break-high-4 .ensures .1);
-    }
-
-pub work-solve-requires-in-Move-2 : need.work-solve-requires-in-Move-2
-work-solve-requires-in-Move-2 g t c κs within =
-    let a = opened (moves g) (laws g) (c .args .room .nodes) (blank g) (c .args .self .now .table) (c .args .task) (c .plan-plan .result) (c .pre .valid) (c .plan-plan .ensures)
-    (c .solve .last .self .table) (c .in-Continue-low .low) (c .in-Continue-low .ensures tt .rule) (c .in-Move .is)
-    in
-    let b = entered a (c .solve-in-Move .last .self .table) (c .in-Continue-high-4 .high) (c .in-Continue-high-4 .ensures tt .rule) {f = min (c .in-Continue-low .low .entries + c .in-Continue-high-4 .high .entries) (2 ^ 64 - 1)} refl in
-    (omega (arith, b .meets .1), (within .0, (within .1, (b .meets .0, c .solve-in-Move .ensures .kept))))
+    (omega (arith, b .meets .1), (within .0, (within .1, (b .meets .0, c .solve-in-Then .ensures .kept))))
 
 pub work-returns-in-Break-moved : need.work-returns-in-Break-moved
 work-returns-in-Break-moved g t c =
     let a = opened (moves g) (laws g) (c .args .room .nodes) (blank g) (c .args .self .now .table) (c .args .task) (c .plan-plan .result) (c .pre .valid) (c .plan-plan .ensures)
-    (c .solve .last .self .table) (c .in-Continue-low .low) (c .in-Continue-low .ensures tt .rule) (c .in-Move .is)
+    (c .solve .last .self .table) (c .in-Continue-low .low) (c .in-Continue-low .ensures tt .rule) (c .in-Then .is)
     in
-    let b = entered a (c .solve-in-Move .last .self .table) (c .in-Continue-high-4 .high) (c .in-Continue-high-4 .ensures tt .rule) {f = min (c .in-Continue-low .low .entries + c .in-Continue-high-4 .high .entries) (2 ^ 64 - 1)} refl in
+    let b = second (c .in-Move .is) (c .in-Continue-low .low .number) a (c .solve-in-Then .last .self .table) (c .in-Continue-high .high) (c .in-Continue-high .ensures tt .rule)
+    (c .saturating-add-entries .ensures)
+    in
     record {
-      kept = c .solve-in-Move-2 .ensures .kept;
-      rule = refused b (c .solve-in-Move-2 .last .self .table) (c .in-Break-moved .field-0 .0) (c .in-Break-moved .ensures tt .rule) (c .from-residual-in-Break-moved .result) (c .from-residual-in-Break-moved .ensures .1);
+      kept = c .solve-in-Move .ensures .kept;
+      rule = refused b (c .solve-in-Move .last .self .table) (c .in-Break-moved .field-0 .0) (c .in-Break-moved .ensures tt .rule) (c .from-residual-in-Break-moved .result) (c .from-residual-in-Break-moved .ensures .1);
     }
 
 pub work-joined-requires-in-Move : need.work-joined-requires-in-Move
 work-joined-requires-in-Move g t c κs within =
     let a = opened (moves g) (laws g) (c .args .room .nodes) (blank g) (c .args .self .now .table) (c .args .task) (c .plan-plan .result) (c .pre .valid) (c .plan-plan .ensures)
-    (c .solve .last .self .table) (c .in-Continue-low .low) (c .in-Continue-low .ensures tt .rule) (c .in-Move .is)
+    (c .solve .last .self .table) (c .in-Continue-low .low) (c .in-Continue-low .ensures tt .rule) (c .in-Then .is)
     in
-    let b = entered a (c .solve-in-Move .last .self .table) (c .in-Continue-high-4 .high) (c .in-Continue-high-4 .ensures tt .rule) (c .saturating-add .ensures) in
-    let d = entered b (c .solve-in-Move-2 .last .self .table) (c .in-Continue-moved .moved) (c .in-Continue-moved .ensures tt .rule) (c .saturating-add-entries-in-Move .ensures) in
-    (omega (arith, d .meets .1), (within .0, (within .1, (d .meets .0, c .solve-in-Move-2 .ensures .kept))))
+    let b = second (c .in-Move .is) (c .in-Continue-low .low .number) a (c .solve-in-Then .last .self .table) (c .in-Continue-high .high) (c .in-Continue-high .ensures tt .rule)
+    (c .saturating-add-entries .ensures)
+    in
+    let d = entered b (c .solve-in-Move .last .self .table) (c .in-Continue-moved .moved) (c .in-Continue-moved .ensures tt .rule) (c .saturating-add-entries-in-Move .ensures) in
+    (omega (arith, d .meets .1), (within .0, (within .1, (d .meets .0, c .solve-in-Move .ensures .kept))))
 
 pub work-returns-in-Continue-moved : need.work-returns-in-Continue-moved
 work-returns-in-Continue-moved g t c =
     let a = opened (moves g) (laws g) (c .args .room .nodes) (blank g) (c .args .self .now .table) (c .args .task) (c .plan-plan .result) (c .pre .valid) (c .plan-plan .ensures)
-    (c .solve .last .self .table) (c .in-Continue-low .low) (c .in-Continue-low .ensures tt .rule) (c .in-Move .is)
+    (c .solve .last .self .table) (c .in-Continue-low .low) (c .in-Continue-low .ensures tt .rule) (c .in-Then .is)
     in
-    let b = entered a (c .solve-in-Move .last .self .table) (c .in-Continue-high-4 .high) (c .in-Continue-high-4 .ensures tt .rule) (c .saturating-add .ensures) in
-    let d = entered b (c .solve-in-Move-2 .last .self .table) (c .in-Continue-moved .moved) (c .in-Continue-moved .ensures tt .rule) (c .saturating-add-entries-in-Move .ensures) in
+    let b = second (c .in-Move .is) (c .in-Continue-low .low .number) a (c .solve-in-Then .last .self .table) (c .in-Continue-high .high) (c .in-Continue-high .ensures tt .rule)
+    (c .saturating-add-entries .ensures)
+    in
+    let d = entered b (c .solve-in-Move .last .self .table) (c .in-Continue-moved .moved) (c .in-Continue-moved .ensures tt .rule) (c .saturating-add-entries-in-Move .ensures) in
     record { kept = c .joined-in-Move .ensures .kept; rule = handed d (c .joined-in-Move .last .self .table) _ (c .joined-in-Move .ensures .rule) }

@@ -2,7 +2,7 @@ use mathlib.Core.Path.{refl, subst}
 use Prim.Native.Nat.{ℕ}
 use Rattle.diagrams.specs.Rules.{node}
 use Rattle.tables.specs.Rows.{rows, Makes}
-use Rattle.engine.proofs.Along.{node-kept}
+use Rattle.engine.proofs.Keeping.{node-kept}
 use Rattle.engine.proofs.engine.Engine.add.Needs as need
 
 pub returns : need.returns
