@@ -73,7 +73,7 @@ module _ (N : List Node) (a : Node) where
           absurd (new j d record { same-x = sym (t .same-x); same-y = sym (t .same-y); same-lo = sym (t .same-lo); same-hi = sym (t .same-hi) })
       apart-at i j (no h) (no d) l q s = last i h l ∙ sym (last j d q)
 
-is-node-same : (x y lo hi : ℕ) (a : Node) → is-node x y lo hi a ≡ true → (a .x ≡ x) × (a .y ≡ y) × (a .lo ≡ lo) × (a .hi ≡ hi)
+pub is-node-same : (x y lo hi : ℕ) (a : Node) → is-node x y lo hi a ≡ true → (a .x ≡ x) × (a .y ≡ y) × (a .lo ≡ lo) × (a .hi ≡ hi)
 is-node-same x y lo hi a h =
     let p = and-is _ _ .0 h in
     let q = and-is _ _ .0 (p .1) in

@@ -1,24 +1,32 @@
 -- The rule of each kind, by the rows that were read. Assumes nothing.
 use mathlib.Core.Path.{_≡_, sym, ap, _∙_, fun-ext}
 use mathlib.Core.Bool.{false}
+use mathlib.Core.List.{List}
 use Prim.Native.Nat.{ℕ, _<_, _≤_}
 use lib.Dec.{eqb, ltb}
 use borrow.Author.Tests.{lt-ltb, le-ltb, eq-eqb, ne-eqb}
+use Rattle.std.specs.declared.option.Option.the-variants.{None}
 use Rattle.orders.specs.declared.order.Order.{Order}
 use Rattle.orders.specs.Orders.{place}
 use Rattle.orders.specs.Dimension.{dimension}
 use Rattle.diagrams.specs.declared.Node.{Node}
 use Rattle.diagrams.specs.declared.Side.{Side}
+use Rattle.diagrams.specs.declared.Task.{Task}
 use Rattle.diagrams.specs.declared.Task.the-variants.{Join, Carry, Follow}
 use Rattle.diagrams.specs.Moves.{Moves, back}
 use Rattle.diagrams.specs.Script.{Script, answer, make, enter}
-use Rattle.diagrams.specs.Bodies.{carry-body, follow-body, pick-body, from-of, moved-by, high-body, lift-script}
+use Rattle.diagrams.specs.Bodies.{carry-body, follow-body, pick-body, from-of, moved-by, high-body, lift-script, body}
+use Rattle.diagrams.specs.Outright.{outright}
 
 -- of the kinds that are on two numbers
 pub read-two : (f : Node → Node → Side → Script) {p p′ q q′ : Node} {w w′ : Side} → p ≡ p′ → q ≡ q′ → w ≡ w′ → f p q w ≡ f p′ q′ w′
 read-two f ep eq ew = cc
 
 module _ (g : Moves) where
+  -- a task t that is the kind u, by the rule of that kind
+  pub read-kind : (N : List Node) {t u : Task} {s x : Script} → t ≡ u → s ≡ x → outright t ≡ None → (outright u ≡ None → body g N u ≡ x) → s ≡ body g N t
+  read-kind N e f o w = f ∙ sym (w (sym (ap outright e) ∙ o)) ∙ sym (ap (body g N) e)
+
   pub read-pick : (a k z from : ℕ) {p p′ : Node} → p ≡ p′ → from ≡ from-of g p z
       → pick-body p a k z from false false (eqb k z) ≡ pick-body p′ a k z (from-of g p′ z) false false (eqb k z)
   read-pick a k z from {p} {p′} ep ef =

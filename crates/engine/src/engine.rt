@@ -78,8 +78,9 @@ impl<G: Chain, C: Cache> Engine<G, C> {
         self.table.node(room.nodes(), x, y, lo, hi)
     }
 
-    // A task by its rule: outright, or as it is remembered, or worked and told. The recursion is at most 3 calls for each
-    // step down of the rule's measure, which is below 2,600 and in practice a few dozen: so the stack it takes is small.
+    // A task by its rule: outright, or as it is remembered, or worked and told. A task that is entered within another has a
+    // smaller measure, and a measure is below 2,600: so fewer tasks than that are ever under way at once, each with at most
+    // three small frames on the stack. In practice there are far fewer, since a level is at most 120 and a dimension 16.
     pub fn solve(&mut self, room: Room, task: Task) -> Result<Found, Refusal>
         requires valid { ⌜ Valid (rows (now self .table)) task ⌝ }
         requires kept { ⌜ Kept table (room .nodes) (rows (now self .table)) (recalls (now self .cache)) ⌝ }
@@ -117,8 +118,8 @@ impl<G: Chain, C: Cache> Engine<G, C> {
             Rest::Pass => Ok(low),
             Rest::Over(x, y, hi) => self.made(room, x, y, low.number, hi, low.entries),
             Rest::Lift(x, y) => self.made(room, x, y, 0, low.number, low.entries),
-            Rest::Then(task, last) => {
-                let high = self.solve(room, task)?;
+            Rest::Then(next, last) => {
+                let high = self.solve(room, next)?;
                 let entries = low.entries.saturating_add(high.entries);
                 match last {
                     Last::Both(x, y) => self.made(room, x, y, low.number, high.number, entries),

@@ -25,7 +25,7 @@ use tables::Table;
 pub fn plan<G: Chain>(nodes: &Table, task: Task) -> Plan
     requires valid { ⌜ Valid (rows (now nodes)) task ⌝ }
     requires work { ⌜ outrightOf task ≡ None ⌝ }
-    ensures { λ r. ⌜ script r ≡ body (table) (rows (now (nodes .entry))) task ⌝ }
+    ensures { λ r. ⌜ script r ≡ body table (rows (now (nodes .entry))) task ⌝ }
 {
     match task {
         Task::Join(a, b) => join(nodes, a, b),
@@ -112,7 +112,7 @@ fn without(nodes: &Table, a: u32, b: u32) -> Plan
 // The orders with piece k in place p.
 fn pick<G: Chain>(nodes: &Table, a: u32, k: u8, p: u8) -> Plan
     requires { ⌜ Exists (rows (now nodes)) a ⌝ }
-    ensures { λ r. ⌜ script r ≡ pick-body (row (rows (now (nodes .entry))) a) a k p (from-of (table) (row (rows (now (nodes .entry))) a) p) false false (eqb k p) ⌝ }
+    ensures { λ r. ⌜ script r ≡ pick-body (row (rows (now (nodes .entry))) a) a k p (from-of table (row (rows (now (nodes .entry))) a) p) false false (eqb k p) ⌝ }
 {
     let node = nodes.get(a);
     let from = G::step(node.x, node.y).inverse().place(p);
@@ -125,7 +125,7 @@ fn pick<G: Chain>(nodes: &Table, a: u32, k: u8, p: u8) -> Plan
 // Each order of a followed by each of b.
 fn follow<G: Chain>(nodes: &Table, a: u32, b: u32) -> Plan
     requires { ⌜ Exists (rows (now nodes)) b ⌝ }
-    ensures { λ r. ⌜ script r ≡ follow-body (table) (row (rows (now (nodes .entry))) b) a b false false ⌝ }
+    ensures { λ r. ⌜ script r ≡ follow-body table (row (rows (now (nodes .entry))) b) a b false false ⌝ }
 {
     let q = nodes.get(b);
     Plan {
@@ -138,7 +138,7 @@ fn follow<G: Chain>(nodes: &Table, a: u32, b: u32) -> Plan
 // the two parts of a are carried apart and then joined: what h makes of them need not be the two parts of one node.
 fn carry<G: Chain>(nodes: &Table, a: u32, h: Order) -> Plan
     requires { ⌜ Exists (rows (now nodes)) a ⌝ }
-    ensures { λ r. ⌜ script r ≡ carry-body (table) (row (rows (now (nodes .entry))) a) a h false false (ltb (x-of (rows (now (nodes .entry))) a) (dimension h)) ⌝ }
+    ensures { λ r. ⌜ script r ≡ carry-body table (row (rows (now (nodes .entry))) a) a h false false (ltb (x-of (rows (now (nodes .entry))) a) (dimension h)) ⌝ }
 {
     let p = nodes.get(a);
     let d = h.dimension();
@@ -157,7 +157,7 @@ fn carry<G: Chain>(nodes: &Table, a: u32, h: Order) -> Plan
 
 // The high part hi of a node of x, carried by k and joined to the low part: under the move of k at x, if there is one.
 fn upper<G: Chain>(x: u8, hi: u32, k: Order) -> Rest
-    ensures { λ rest. ⌜ ((r : ℕ) → rest-of rest r ≡ high-body (table) x (place k x) hi k r (eqb (place k x) x)) ⌝ }
+    ensures { λ rest. ⌜ ((r : ℕ) → rest-of rest r ≡ high-body table x (place k x) hi k r (eqb (place k x) x)) ⌝ }
 {
     let z = k.place(x);
     if z == x {

@@ -14,8 +14,8 @@ use Rattle.std.specs.declared.option.Option.{Option}
 use Rattle.std.specs.declared.option.Option.the-variants.{Some, None}
 use Rattle.diagrams.specs.declared.Node.{Node}
 use Rattle.diagrams.specs.Table.{Exists, Extends}
-use Rattle.store.specs.Pegs.{Pegs, Pegged}
-use Rattle.store.specs.Views.{View}
+use Rattle.sweeps.specs.Reaching.{Pegs as Pegged}
+use Rattle.store.specs.Views.{View, Pegs}
 use Rattle.store.specs.Questions.{peg-asked, on-peg, held-on}
 
 abbrev pub unpegged : Option ℕ

@@ -29,7 +29,7 @@ use Rattle.store.specs.declared.hold.Returned.{Returned}
 use Rattle.store.specs.declared.store.Store.{Store}
 use Rattle.store.specs.Views.{View, view, room-of}
 use Rattle.store.specs.Questions.{task-of}
-use Rattle.store.specs.Steps.{Call, Reply, found, declined, held, released, returned, sets, step, bare}
+use Rattle.store.specs.Steps.{Call, Reply, found, declined, held, released, returned, left, sets, step, bare}
 
 -- What holds of a store between calls: every pair that its cache remembers is right. `begin` promises it, and every call
 -- asks for it and promises it again.
@@ -65,6 +65,10 @@ hold-reply (Err e) = declined e
 abbrev pub release-reply : Result (Unit {0}) Returned → Reply
 release-reply (Ok u) = released
 release-reply (Err b) = returned (b .refusal) (b .hold)
+
+abbrev pub sweep-reply : Result ℕ Refusal → Reply
+sweep-reply (Ok n) = left n
+sweep-reply (Err e) = declined e
 
 -- The orders that a call is to find, in words of orders.
 abbrev pub Wanted : Moves → View → SetCall → Order → Type 0

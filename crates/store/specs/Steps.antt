@@ -1,13 +1,13 @@
 -- The calls that change a store, and what each does to what the store is. Assumes nothing.
 use mathlib.Core.Bool.{Bool, true, false, _&&_, not}
 use mathlib.Core.List.{List}
-use Prim.Native.Nat.{ℕ, suc}
+use Prim.Native.Nat.{ℕ, suc, _+_}
 use lib.Dec.{eqb, ltb, leb}
 use lib.ListN.{length, set}
 use Rattle.std.specs.declared.option.Option.{Option}
 use Rattle.std.specs.declared.option.Option.the-variants.{Some, None}
 use Rattle.orders.specs.declared.refusal.Refusal.{Refusal}
-use Rattle.orders.specs.declared.refusal.Refusal.the-variants.{NoRoom, BadNode}
+use Rattle.orders.specs.declared.refusal.Refusal.the-variants.{NoRoom, LastSeason, BadNode}
 use Rattle.diagrams.specs.declared.Node.{Node}
 use Rattle.diagrams.specs.Moves.{Moves}
 use Rattle.diagrams.specs.Level.{level}
@@ -18,6 +18,7 @@ use Rattle.store.specs.declared.shapes.Handle.{Handle}
 use Rattle.store.specs.declared.shapes.SetCall.{SetCall}
 use Rattle.std.specs.declared.result.Result.{Result}
 use Rattle.std.specs.declared.result.Result.the-variants.{Ok, Err}
+use Rattle.sweeps.specs.Sweeping.{swept, pegs-after}
 use Rattle.store.specs.declared.hold.Hold.{Hold}
 use Rattle.store.specs.Views.{View, room-of, with-nodes, with-pegs}
 use Rattle.store.specs.Questions.{ask, or-else, handle-asked, peg-asked, held-on, call-asked, task-of}
@@ -32,6 +33,8 @@ pub data Call : Type 0 where
   holds : Handle → ℕ → Call
   -- a hold is given back
   releases : Hold → Call
+  -- what no peg reaches is dropped
+  sweep : Call
 
 -- what a call answers, apart from its entries
 pub data Reply : Type 0 where
@@ -41,6 +44,8 @@ pub data Reply : Type 0 where
   released : Reply
   -- a release that is declined hands the hold back
   returned : Refusal → Hold → Reply
+  -- so many nodes are left
+  left : ℕ → Reply
 
 abbrev pub After : Type 0
 After = View × Reply
@@ -83,6 +88,14 @@ abbrev pub released-by : View → Hold → Result ℕ Refusal → After
 released-by w h (Ok n) = (with-pegs w (set (w .pegs) (h .peg) None), released)
 released-by w h (Err e) = (w, returned e h)
 
+-- 11: is the season not the last?
+unfoldable pub season-asked : View → Option Refusal
+season-asked w = ask (ltb (w .season) 4294967295) LastSeason None
+
+-- what is left is what the pegs reach, with new numbers and in a new season
+abbrev pub swept-view : View → View
+swept-view w = record { plan = w .plan; season = w .season + 1; nodes = swept (w .nodes) (w .pegs); pegs = pegs-after (w .nodes) (w .pegs) }
+
 -- What each call does, by the chain's moves g: its questions, and then the rule of work.
 abbrev pub step : Moves → View → Call → After
 step g w (sets call) = unless (call-asked w call) w (worked w (task g (room-of w) (w .nodes) (task-of call)))
@@ -91,6 +104,7 @@ step g w (holds h p) =
     unless (or-else (handle-asked w h) (peg-asked w p)) w
     (with-pegs w (set (w .pegs) p (Some (h .number))), held (record { mark = w .plan .mark; peg = p }))
 step g w (releases h) = released-by w h (held-on w (h .mark) (h .peg))
+step g w sweep = unless (season-asked w) w (swept-view w, left (length (swept (w .nodes) (w .pegs))))
 
 -- the entries of the bare rule, none where the call is declined
 abbrev pub entries-in : Outcome → ℕ
@@ -106,3 +120,4 @@ bare g w (sets call) = entries-if (call-asked w call) (entries-in (task g (room-
 bare g w (adds x y lo hi) = 0
 bare g w (holds h p) = 0
 bare g w (releases h) = 0
+bare g w sweep = 0

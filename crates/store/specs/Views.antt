@@ -1,17 +1,21 @@
 -- What a store is, apart from its chain and its cache. Assumes nothing.
 use mathlib.Core.List.{List}
 use Prim.Native.Nat.{ℕ}
+use Rattle.std.specs.declared.option.Option.{Option}
 use Rattle.diagrams.specs.declared.Node.{Node}
 use Rattle.tables.specs.Rows.{rows}
-use Rattle.store.specs.Pegs.{Pegs}
 use Rattle.store.specs.declared.plan.Plan.{Plan}
 use Rattle.store.specs.declared.store.Store.{Store}
+
+abbrev pub Pegs : Type 0
+Pegs = List (Option ℕ)
 
 pub record View : Type 0 where
   pub plan : Plan
   pub season : ℕ
   -- the nodes in the order of their numbers, with all they carry
   pub nodes : List Node
+  -- what each peg has: nothing, or the number of a set
   pub pegs : Pegs
 
 abbrev pub view : {G C : Type 0} → Store G C → View

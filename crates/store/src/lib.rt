@@ -3,6 +3,7 @@ mod hold;
 mod plan;
 mod shapes;
 mod store;
+mod theorems;
 
 pub use hold::Hold;
 pub use hold::Returned;
@@ -13,3 +14,4 @@ pub use shapes::HandleEq;
 pub use shapes::HandlePartialEq;
 pub use shapes::SetCall;
 pub use store::Store;
+pub use theorems::holds_stand;

@@ -2,7 +2,7 @@
 ghost use lib.ListN.{length};
 ghost use mathlib.Core.Path.{_≡_};
 ghost use Rattle.tables.specs.Rows.{rows};
-ghost use Rattle.store.specs.Pegs.{Pegged};
+ghost use Rattle.sweeps.specs.Reaching.{Pegs as Pegged};
 use super::plan::Plan;
 use caches::Cache;
 use engine::Engine;
@@ -14,6 +14,7 @@ mod pegs;
 mod questions;
 mod reading;
 mod sets;
+mod sweeping;
 
 // How many pegs a store has.
 pub const PEGS: usize = 64;

@@ -1,0 +1,5 @@
+pub mod Leads
+pub mod Keeps
+pub mod Laws
+pub mod Spreads
+pub mod Rebuilds

@@ -1,0 +1,4 @@
+pub mod Reaching
+pub mod Sweeping
+pub mod Marks
+pub mod Theorems
