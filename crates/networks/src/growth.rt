@@ -82,9 +82,9 @@ fn counted_once<G: Chain, C: Cache>(store: &mut Store<G, C>, nodes: usize) -> Re
     let mut room = [0u64; 2046];
     let mut seen = Filled::new(&mut room);
     let standing = store.standing_set();
-    for i in 0..nodes as u32 {
+    for i in 0..nodes.min(2046) as u32 {
         let season = store.season();
-        let number = i.saturating_add(2);
+        let number = i + 2;
         let rest = store.without(Handle { season, number }, standing)?;
         let rest = rest.handle.number as u64;
         if seen.find(&rest).is_none() {

@@ -8,7 +8,7 @@ use Rattle.orders.specs.declared.order.Order.{Order}
 use Rattle.orders.specs.Orders.{place, then, inverse, place-then, place-out}
 use Rattle.orders.specs.Chains.{Pair, ChainLaws}
 use Rattle.orders.specs.Factors.{stepAt, remains, remains-start, remains-down, factorAt, factor-is, StillAbove, step-none, factors-product}
-use Rattle.diagrams.specs.Moves.{Moves, back}
+use Rattle.diagrams.specs.Moves.{Moves}
 use Rattle.diagrams.proofs.Groups.{back-move}
 use Rattle.numbering.specs.Before.{Before}
 

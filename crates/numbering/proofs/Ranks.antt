@@ -1,14 +1,13 @@
 -- The numbers of the orders of a set. Assumes nothing.
 use mathlib.Core.Logic.{_⊎_, inl, inr, _↔_}
 use mathlib.Core.Path.{_≡_, refl, sym, ap, subst, _∙_}
-use mathlib.Core.List.{List, [], _∷_, map}
-use Prim.Native.Nat.{ℕ, zero, suc, _-_, _≤_, _<_}
+use mathlib.Core.List.{List, _∷_, map}
+use Prim.Native.Nat.{ℕ, zero, suc, _≤_, _<_}
 use native.Mathlib.Omega.{arith}
 use native.Mathlib.Decide.{decLt}
 use lib.ListN.{length}
 use Rattle.std.specs.declared.option.Option.{Option}
 use Rattle.std.specs.declared.option.Option.the-variants.{Some, None}
-use Rattle.std.specs.Options.{Cases}
 use Rattle.orders.specs.declared.order.Order.{Order}
 use Rattle.orders.specs.Orders.{place, then}
 use Rattle.orders.specs.Chains.{Pair, ChainLaws}
@@ -17,14 +16,14 @@ use Rattle.diagrams.specs.declared.Node.{Node}
 use Rattle.diagrams.specs.Moves.{Moves, back}
 use Rattle.diagrams.specs.Table.{at, Exists, x-of, y-of, lo-of, hi-of, count-of, fold, Sound, In}
 use Rattle.diagrams.specs.Counting.{Has, Distinct, moved, orders-of}
-use Rattle.diagrams.specs.Theorems.{Counted, Stands}
+use Rattle.diagrams.specs.Theorems.{Counted}
 use Rattle.diagrams.proofs.Groups.{back-move}
 use Rattle.diagrams.proofs.Places.{low, high}
 use Rattle.diagrams.proofs.Canon.{in-low, in-high}
 use Rattle.diagrams.proofs.Counts.{map-has, list-node, counted}
 use Rattle.diagrams.proofs.Sets.{stands}
 use Rattle.numbering.specs.Before.{Before}
-use Rattle.numbering.specs.Numbered.{Many, Numbered, item, order-at, place-of, Fetched, Placed}
+use Rattle.numbering.specs.Numbered.{Numbered, item, order-at, place-of, Fetched, Placed}
 use Rattle.numbering.specs.Theorems.{Numbering}
 use Rattle.numbering.proofs.Factors.{higher-first, moved-before, irreflexive, transitive, compare}
 use Rattle.numbering.proofs.Lists.{fewer, many-one, item-has, item-some, item-none, place-item, place-none, Sorted, sorted-both, sorted-map, sorted-many}

@@ -1,8 +1,8 @@
 -- A table of which some nodes are kept, with every kept node its parts: it is sound, and has the same sets. Assumes nothing.
-use mathlib.Core.Logic.{_⊎_, inl, inr}
+use mathlib.Core.Logic.{inl, inr}
 use mathlib.Core.Bool.{Bool, true, false, _||_, cond}
 use mathlib.Core.Path.{_≡_, refl, sym, ap, ap₂, subst, _∙_}
-use mathlib.Core.List.{List, [], _∷_}
+use mathlib.Core.List.{List, []}
 use Prim.Native.Nat.{ℕ, zero, suc, _+_, _≤_, _<_}
 use native.Mathlib.Omega.{arith}
 use native.Mathlib.Decide.{decLt, ℕ-discrete}
@@ -11,10 +11,10 @@ use Rattle.orders.specs.declared.order.Order.{Order}
 use Rattle.diagrams.specs.declared.Node.{Node}
 use Rattle.diagrams.specs.Moves.{Moves, back}
 use Rattle.diagrams.specs.Level.{level}
-use Rattle.diagrams.specs.Table.{at, Exists, x-of, y-of, lo-of, hi-of, level-of, count-of, fold, mem, Sound, NodeOk, Same, Extends}
-use Rattle.diagrams.specs.Rules.{Asks, new-node}
+use Rattle.diagrams.specs.Table.{at, Exists, x-of, y-of, lo-of, hi-of, level-of, count-of, mem, Sound, Same, Extends}
+use Rattle.diagrams.specs.Rules.{Asks}
 use Rattle.diagrams.proofs.Folds.{mem-zero, mem-one, mem-node}
-use Rattle.diagrams.proofs.Pushes.{extends-self, extends-trans, pushed, pushed-length, pushed-last, push-extends, push-sound}
+use Rattle.diagrams.proofs.Pushes.{extends-self, pushed, pushed-length, pushed-last, push-extends, push-sound}
 use Rattle.sweeps.specs.Sweeping.{rank, renumber, again, kept-of}
 use Rattle.sweeps.specs.Marks.{Kept, Closed}
 

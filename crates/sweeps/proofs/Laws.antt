@@ -1,19 +1,16 @@
 -- The law of sweeps. Assumes nothing.
-use mathlib.Core.Logic.{_⊎_, inl, inr, _↔_}
-use mathlib.Core.Bool.{true}
-use mathlib.Core.Path.{_≡_, refl, sym, ap, _∙_}
+use mathlib.Core.Logic.{inr}
+use mathlib.Core.Path.{_≡_, sym, ap, _∙_}
 use mathlib.Core.List.{List, [], _∷_, map}
-use Prim.Native.Nat.{ℕ, zero, suc, _≤_, _<_}
+use Prim.Native.Nat.{ℕ, zero, suc, _≤_}
 use native.Mathlib.Omega.{arith}
 use lib.ListN.{length, getD}
 use Rattle.std.specs.declared.option.Option.{Option}
-use Rattle.std.specs.declared.option.Option.the-variants.{Some, None}
-use Rattle.orders.specs.declared.order.Order.{Order}
+use Rattle.std.specs.declared.option.Option.the-variants.{Some}
 use Rattle.diagrams.specs.declared.Node.{Node}
-use Rattle.diagrams.specs.Moves.{Moves}
-use Rattle.diagrams.specs.Table.{at, Exists, Sound, lo-of, hi-of, In}
+use Rattle.diagrams.specs.Table.{at, Exists, Sound, lo-of, hi-of}
 use Rattle.sweeps.specs.Reaching.{empty, Pegs, Reached, held, low, high, reached}
-use Rattle.sweeps.specs.Sweeping.{on-peg, renumber, rank, swept, renumbered, pegs-after}
+use Rattle.sweeps.specs.Sweeping.{on-peg, renumber, swept, renumbered, pegs-after}
 use Rattle.sweeps.specs.Marks.{Kept, Closed}
 use Rattle.sweeps.specs.Theorems.{Sweep}
 use Rattle.sweeps.proofs.Leads.{reached-there, reached-found, found-is-reached}

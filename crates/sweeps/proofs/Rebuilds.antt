@@ -1,5 +1,5 @@
 -- Nodes made again by the rule `node`, and the pegs with new numbers. Assumes nothing.
-use mathlib.Core.Logic.{_⊎_, inl, inr, _≢_}
+use mathlib.Core.Logic.{inl, inr, _≢_}
 use mathlib.Core.Bool.{Bool, true, false, false≢true}
 use mathlib.Core.Path.{_≡_, refl, sym, ap, subst, _∙_}
 use mathlib.Core.List.{List, [], _∷_, map}
@@ -14,7 +14,7 @@ use Rattle.std.specs.declared.result.Result.{Result}
 use Rattle.std.specs.declared.result.Result.the-variants.{Ok, Err}
 use Rattle.orders.specs.declared.refusal.Refusal.{Refusal}
 use Rattle.diagrams.specs.declared.Node.{Node}
-use Rattle.diagrams.specs.Table.{at, blank, Exists, Sound, count-of, Same}
+use Rattle.diagrams.specs.Table.{at, blank, Exists, Sound}
 use Rattle.diagrams.specs.Bodies.{row}
 use Rattle.diagrams.specs.Rules.{Outcome, done, is-node, find, node, new-node, Asks}
 use Rattle.diagrams.proofs.Nodes.{node-new}

@@ -2,3 +2,4 @@ pub mod Reaching
 pub mod Sweeping
 pub mod Marks
 pub mod Theorems
+pub mod Examples

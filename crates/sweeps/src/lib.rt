@@ -13,6 +13,7 @@ use marking::marked;
 use remaking::Remade;
 use remaking::made_again;
 use remaking::moved;
+pub use theorems::examples_stand;
 pub use theorems::sweep_stands;
 
 // How many pegs a store has.

@@ -1,4 +1,3 @@
-use Prim.Native.Nat.{_<_}
 use native.Mathlib.Omega.{arith}
 use Rattle.tables.specs.Rows.{rows}
 use Rattle.tables.proofs.Rows.{sound-of, rows-within}

@@ -1,7 +1,6 @@
-use mathlib.Core.Path.{_≡_}
-use Prim.Native.Nat.{ℕ, _+_, _<_, _≤_}
+use Prim.Native.Nat.{ℕ, _<_, _≤_}
 use native.Mathlib.Omega.{arith}
-use Rattle.diagrams.specs.Table.{Exists, count-of}
+use Rattle.diagrams.specs.Table.{count-of}
 use Rattle.tables.specs.Rows.{rows}
 use Rattle.tables.proofs.Rows.{sound-of}
 use Rattle.numbering.proofs.Walks.{is-node, parts-there, fetch-none, fetch-one, fetch-low, fetch-high, fetch-some}

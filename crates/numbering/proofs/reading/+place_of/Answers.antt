@@ -1,8 +1,7 @@
-use mathlib.Core.Path.{_≡_, sym, _∙_}
+use mathlib.Core.Path.{sym, _∙_}
 use mathlib.Core.Bool.{false≢true}
-use Prim.Native.Nat.{ℕ, _+_, _<_, _≤_}
+use Prim.Native.Nat.{ℕ, _<_, _≤_}
 use native.Mathlib.Omega.{arith}
-use Rattle.diagrams.specs.Table.{Exists}
 use Rattle.tables.specs.Rows.{rows}
 use Rattle.tables.proofs.Rows.{sound-of}
 use Rattle.numbering.proofs.Walks.{parts-there, place-none, place-standing, place-other, place-low, place-high, place-gone, place-fits}

@@ -1,5 +1,4 @@
-use mathlib.Core.Path.{_≡_, sym, ap, _∙_}
-use Prim.Native.Nat.{ℕ}
+use mathlib.Core.Path.{sym, ap, _∙_}
 use Rattle.diagrams.specs.declared.Node.{Node}
 use Rattle.diagrams.proofs.Counts.{counted}
 use Rattle.tables.specs.Rows.{rows}

@@ -1,7 +1,6 @@
-use mathlib.Core.Path.{_≡_, subst, sym}
-use Prim.Native.Nat.{ℕ, _≤_}
+use mathlib.Core.Path.{_≡_, subst}
+use Prim.Native.Nat.{ℕ}
 use native.Mathlib.Omega.{arith}
-use lib.ListN.{length}
 use Rattle.tables.specs.Rows.{rows}
 use Rattle.tables.proofs.Rows.{sound-of, rows-within}
 use Rattle.sweeps.proofs.Spreads.{Marking, marking-begin, marking-down, marking-end}
