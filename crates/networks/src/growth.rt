@@ -1,7 +1,5 @@
 // The sets of a network, one after the other, and their sizes.
 ghost use Rattle.store.specs.Does.{Kept};
-ghost use Rattle.store.specs.Views.{view};
-ghost use Rattle.store.specs.Holding.{Holds};
 use caches::Cache;
 use lists::Filled;
 use lists::U64Exact;
@@ -10,7 +8,6 @@ use orders::Refusal;
 use orders::factors;
 use store::Handle;
 use store::HandlePartialEq;
-use store::Hold;
 use store::Store;
 
 // How many nodes a set has; and as many if sets that differ in the standing order alone are counted once.
@@ -46,18 +43,6 @@ fn neighbours<G: Chain, C: Cache>(store: &mut Store<G, C>, pieces: u8) -> Result
     Ok(set)
 }
 
-// Takes back a hold that the store has.
-fn give_back<G: Chain, C: Cache>(store: &mut Store<G, C>, hold: Hold)
-    requires kept { ⌜ Kept table recalls (now store) ⌝ }
-    requires holds { ⌜ Holds (view (now store)) hold ⌝ }
-    ensures { λ _. ⌜ Kept table recalls (now (store .exit)) ⌝ }
-{
-    match store.release(hold) {
-        Ok(()) => {}
-        Err(_back) => unreachable(),
-    }
-}
-
 // Sweeps all but one set away; its handle then, and how many nodes it has.
 fn alone<G: Chain, C: Cache>(
     store: &mut Store<G, C>,
@@ -69,7 +54,7 @@ fn alone<G: Chain, C: Cache>(
     let hold = store.hold(set, 0)?;
     let left = store.sweep();
     let held = store.held(&hold);
-    give_back(store, hold);
+    store.give_back(hold);
     let nodes = left?;
     Ok((held?, nodes))
 }

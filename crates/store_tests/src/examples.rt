@@ -207,3 +207,76 @@ fn a_node_of_four_values_is_found_or_added() -> Result<(), Fail> {
     check(store.add(2, 1, 2, 1).is_err() && store.add(3, 1, 1, 0).is_err())?;
     check(store.len() == 1)
 }
+
+// A set on a peg, over a sweep: its handle and how many nodes are left.
+fn swept_on_peg<G: Chain, C: Cache>(store: &mut Store<G, C>, set: Handle, peg: u64) -> Result<(Handle, usize), Refusal>
+    requires { ⌜ Kept table recalls (now store) ⌝ }
+    ensures { λ _. ⌜ Kept table recalls (now (store .exit)) ⌝ }
+{
+    let hold = store.hold(set, peg)?;
+    let left = store.sweep();
+    let held = store.held(&hold);
+    store.give_back(hold);
+    let nodes = left?;
+    Ok((held?, nodes))
+}
+
+// Whether a set cannot be put on a peg, by the refusal with this number.
+fn not_held<G: Chain, C: Cache>(store: &mut Store<G, C>, set: Handle, peg: u64, number: u8) -> bool
+    requires { ⌜ Kept table recalls (now store) ⌝ }
+    ensures { λ _. ⌜ Kept table recalls (now (store .exit)) ⌝ }
+{
+    match store.hold(set, peg) {
+        Ok(hold) => {
+            store.give_back(hold);
+            false
+        }
+        Err(refusal) => refusal.number() == number,
+    }
+}
+
+#[test]
+fn a_held_set_is_the_same_set_after_a_sweep() -> Result<(), Fail> {
+    let mut store = Store::begin(plan(3, 99)?, Swap, Slots::new());
+    let six = all_six(&mut store)?;
+    let picked = store.pick(six, 3, 1)?;
+    let (kept, left) = swept_on_peg(&mut store, picked.handle, 63)?;
+    check(left == 2 && store.len() == 2)?;
+    check(kept == Handle { season: 8, number: 3 })?;
+    check(store.count(kept)? == 2)?;
+    check(store.order_at(kept, 0)? == order(3, 2, 1)? || store.order_at(kept, 1)? == order(3, 2, 1)?)?;
+    check(!store.accepts(picked.handle))?;
+    let again = all_six(&mut store)?;
+    check(store.count(again)? == 6)
+}
+
+#[test]
+fn a_sweep_with_empty_pegs_leaves_nothing() -> Result<(), Fail> {
+    let mut store = Store::begin(plan(3, 99)?, Rotation, Slots::new());
+    all_six(&mut store)?;
+    check(store.sweep()? == 0 && store.len() == 0)?;
+    check(store.count(store.standing_set())? == 1)
+}
+
+#[test]
+fn the_last_season_is_not_swept() -> Result<(), Fail> {
+    let last = Plan::new(3, 9, u32::MAX, 0)?;
+    let mut store = Store::begin(last, Swap, Blank);
+    match store.sweep() {
+        Ok(_) => Err(Fail::new("swept")),
+        Err(refusal) => check(refusal.number() == 11),
+    }
+}
+
+#[test]
+fn pegs_are_asked_in_their_order() -> Result<(), Fail> {
+    let mut store = Store::begin(plan(3, 99)?, Swap, Blank);
+    let none = store.empty_set();
+    let old = Handle {
+        season: 0,
+        number: 0,
+    };
+    check(not_held(&mut store, old, 64, 4))?;
+    check(not_held(&mut store, none, 64, 8))?;
+    check(!not_held(&mut store, none, 0, 9))
+}

@@ -1,9 +1,11 @@
 // Sets that are held on pegs.
 ghost use mathlib.Core.Path.{_≡_};
+ghost use Rattle.std.specs.Vec.{made};
 ghost use Rattle.store.specs.Views.{view};
 ghost use Rattle.store.specs.Questions.{answered, peg-asked, held-on};
-ghost use Rattle.store.specs.Steps.{holds, releases, handle-held};
+ghost use Rattle.store.specs.Steps.{holds, releases, released, handle-held};
 ghost use Rattle.store.specs.Does.{Kept, Does, hold-reply, release-reply};
+ghost use Rattle.store.specs.Holding.{Holds};
 use super::PEGS;
 use super::Store;
 use crate::hold::Hold;
@@ -30,7 +32,8 @@ impl<G: Chain, C: Cache> Store<G, C> {
     // Puts a set on an empty peg, and gives the hold on it.
     pub fn hold(&mut self, handle: Handle, peg: u64) -> Result<Hold, Refusal>
         requires { ⌜ Kept table recalls (now self) ⌝ }
-        ensures { λ r. ⌜ Does table recalls (now (self .entry)) (holds handle peg) (now (self .exit)) (hold-reply r) 0 ⌝ }
+        ensures does { λ r. ⌜ Does table recalls (now (self .entry)) (holds handle peg) (now (self .exit)) (hold-reply r) 0 ⌝ }
+        ensures given { λ r. ⌜ made r (Holds (view (now (self .exit)))) ⌝ }
     {
         let number = self.number_of(handle)?;
         self.is_free(peg)?;
@@ -74,5 +77,17 @@ impl<G: Chain, C: Cache> Store<G, C> {
         let peg = hold.spend();
         self.pegs[peg as usize] = None;
         Ok(())
+    }
+
+    // Takes back a hold that the store is known to have, which is never declined.
+    pub fn give_back(&mut self, hold: Hold)
+        requires kept { ⌜ Kept table recalls (now self) ⌝ }
+        requires holds { ⌜ Holds (view (now self)) hold ⌝ }
+        ensures { λ _. ⌜ Does table recalls (now (self .entry)) (releases hold) (now (self .exit)) released 0 ⌝ }
+    {
+        match self.release(hold) {
+            Ok(()) => {}
+            Err(_back) => unreachable(),
+        }
     }
 }

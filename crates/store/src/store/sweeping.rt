@@ -5,6 +5,8 @@ ghost use Rattle.sweeps.specs.Theorems.{Sweep};
 ghost use Rattle.store.specs.Views.{view};
 ghost use Rattle.store.specs.Steps.{sweep};
 ghost use Rattle.store.specs.Does.{Kept, Does, sweep-reply};
+ghost use Rattle.store.specs.Holding.{Holds};
+ghost use Rattle.store.specs.declared.hold.Hold.{Hold};
 use super::Store;
 use caches::Cache;
 use orders::Chain;
@@ -18,6 +20,7 @@ impl<G: Chain, C: Cache> Store<G, C> {
         requires { ⌜ Kept table recalls (now self) ⌝ }
         ensures does { λ r. ⌜ Does table recalls (now (self .entry)) sweep (now (self .exit)) (sweep-reply r) 0 ⌝ }
         ensures law { λ r. ⌜ made r (λ _. Sweep (view (now (self .entry)) .nodes) (view (now (self .entry)) .pegs)) ⌝ }
+        ensures lasts { λ _. ⌜ ((h : Hold) → Holds (view (now (self .entry))) h → Holds (view (now (self .exit))) h) ⌝ }
         ensures forgot { λ r. ⌜ made r (λ _. Emptied (recalls (now (self .exit) .engine .cache))) ⌝ }
     {
         if self.season == u32::MAX {

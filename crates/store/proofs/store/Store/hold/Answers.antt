@@ -7,7 +7,8 @@ use Rattle.diagrams.specs.Table.{Exists}
 use Rattle.tables.specs.Rows.{rows}
 use Rattle.store.specs.Views.{view, with-pegs}
 use Rattle.store.specs.Questions.{handle-asked, peg-asked, or-else}
-use Rattle.store.specs.Steps.{held, unless}
+use Rattle.store.specs.Steps.{After, held, holds, unless, step}
+use Rattle.store.proofs.Holds.{holds-stand}
 use Rattle.store.proofs.Worked.{accepted, handle-there}
 use Rattle.store.proofs.Racks.{pegged-set, some-there, peg-fine}
 use Rattle.store.proofs.store.Store.hold.Needs as need
@@ -28,16 +29,24 @@ ghost-self g c =
 
 pub returns : need.returns
 returns g c =
-    let w = view (c .args .self .now) in
+    let s = c .args .self .now in
+    let w = view s in
     let h = c .args .handle in
     let p = c .args .peg in
+    let t = g .G·Chain .table in
     let yes = accepted _ _ _ (c .in-Continue-number .ensures tt) in
     let free = accepted _ _ _ (c .in-Continue-is-free .ensures tt) in
     let fine : or-else (handle-asked w h) (peg-asked w p) ≡ None = ap (λ a. or-else a (peg-asked w p)) (yes .0) ∙ free .0 in
+    let v = with-pegs w (set (w .pegs) p (Some (c .in-Continue-number .number))) in
+    let after : _≡_ {A = After} (v, held (record { mark = c .mark .result; peg = p })) (step t w (holds h p)) =
+        (λ i. (with-pegs w (set (w .pegs) p (Some (yes .1 i))), held (record { mark = c .mark .ensures i; peg = p })))
+        ∙ sym (ap (λ a. unless a w (with-pegs w (set (w .pegs) p (Some (h .number))), held (record { mark = w .plan .mark; peg = p }))) fine) in
     record {
-      after = (λ i. (with-pegs w (set (w .pegs) p (Some (yes .1 i))), held (record { mark = c .mark .ensures i; peg = p })))
-          ∙ sym (ap (λ a. unless a w (with-pegs w (set (w .pegs) p (Some (h .number))), held (record { mark = w .plan .mark; peg = p }))) fine);
-      kept = c .pre;
-      most = zero-le;
-      just = λ never. refl;
+      does = record {
+        after = after;
+        kept = c .pre;
+        most = zero-le;
+        just = λ never. refl;
+      };
+      given = holds-stand t .given w v (s .racked) h p (record { mark = c .mark .result; peg = p }) after;
     }

@@ -10,7 +10,8 @@ use Rattle.sweeps.specs.Reaching.{Pegs as Pegged}
 use Rattle.sweeps.specs.Sweeping.{swept, pegs-after}
 use Rattle.sweeps.proofs.Laws.{sweep as sweep-law}
 use Rattle.store.specs.Views.{view, Pegs}
-use Rattle.store.specs.Steps.{left}
+use Rattle.store.specs.Steps.{After, left, sweep, step}
+use Rattle.store.proofs.Holds.{holds-stand}
 use Rattle.store.proofs.Sweeps.{pegs-long, pegs-there, sweep-fine, sweep-last}
 use Rattle.store.proofs.store.Store.sweep.Needs as need
 
@@ -23,6 +24,7 @@ returns-then-self g c = record {
     just = λ never. refl;
   };
   law = tt;
+  lasts = λ h k. k;
   forgot = tt;
 }
 
@@ -51,14 +53,17 @@ returns g c =
     let nodes : rows (c .replace .last .self .table) ≡ swept N P = ap rows (c .replace .ensures .table) ∙ made in
     let pegs : c .sweep .result .pegs ≡ pegs-after N P = c .sweep .ensures .held ∙ ap (λ t. pegs-after (rows t) P) (c .table .ensures) in
     let many : c .len-left .result ≡ length (swept N P) = c .len-left .ensures .is ∙ ap length made in
+    let t = g .G·Chain .table in
+    let after : _≡_ {A = After} (record { plan = w .plan; season = w .season + 1; nodes = rows (c .replace .last .self .table); pegs = c .sweep .result .pegs }, left (c .len-left .result)) (step t w sweep) =
+        (λ i. (record { plan = w .plan; season = w .season + 1; nodes = nodes i; pegs = pegs i }, left (many i))) ∙ sweep-fine t w (omega arith) in
     record {
       does = record {
-        after = (λ i. (record { plan = w .plan; season = w .season + 1; nodes = nodes i; pegs = pegs i }, left (many i)))
-            ∙ sweep-fine (g .G·Chain .table) w (omega arith);
+        after = after;
         kept = c .replace .ensures .kept (w .plan .room .nodes);
         most = zero-le;
         just = λ never. refl;
       };
       law = sweep-law N P (sound-of (s .engine .table)) (s .pegged);
+      lasts = λ h k. holds-stand t .lasts w _ h (sym (ap (λ (r : After). r .0) after)) k;
       forgot = c .replace .ensures .emptied;
     }
