@@ -1,2 +1,4 @@
 pub mod Format
 pub mod Held
+pub mod Pages
+pub mod Reading

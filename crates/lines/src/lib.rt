@@ -3,8 +3,12 @@
 mod numbers;
 mod reads;
 mod rows;
+mod writes;
 
 pub use numbers::Fields;
 pub use reads::fields;
 pub use reads::first_line;
 pub use rows::order_of;
+pub use writes::line_len;
+pub use writes::put_bytes;
+pub use writes::put_line;

@@ -28,8 +28,18 @@ pub enum Refusal {
     LastSeason,
     // 12: a number is not below the count, or a list's place is not filled
     PastEnd,
+    // 13: a page is not long enough, or what is read is longer than the program's limit
+    ShortPage,
+    // 14: a line has not exactly its names or values, or there are not just as many lines as due
+    BadLine,
+    // 15: the chain is another
+    OtherChain,
     // 16: the values are not those of a node
     BadNode,
+    // 17: the visit gives a line another number than its own, or none
+    Misnumbered,
+    // 18: orders is not the root's count
+    WrongCount,
 }
 
 impl Refusal {
@@ -50,7 +60,12 @@ impl Refusal {
             Refusal::NoSuchHold => 10,
             Refusal::LastSeason => 11,
             Refusal::PastEnd => 12,
+            Refusal::ShortPage => 13,
+            Refusal::BadLine => 14,
+            Refusal::OtherChain => 15,
             Refusal::BadNode => 16,
+            Refusal::Misnumbered => 17,
+            Refusal::WrongCount => 18,
         }
     }
 }

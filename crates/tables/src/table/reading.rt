@@ -61,6 +61,13 @@ impl Table {
         self.len
     }
 
+    // The nodes, in the order in which they were made.
+    pub fn nodes(&self) -> &[Node]
+        ensures { λ r. ⌜ now r ≡ rows (now (self .entry)) ⌝ }
+    {
+        &self.nodes[0..self.len]
+    }
+
     // Whether there is such a number: 0, 1 or that of a node.
     pub fn exists(&self, number: u32) -> bool
         ensures { λ r. ⌜ Decides r (Exists (rows (now (self .entry))) number) ⌝ }
@@ -78,6 +85,14 @@ impl Table {
             1 => ONE,
             _ => self.nodes[number as usize - 2],
         }
+    }
+
+    // The level of a number: 0 for the numbers 0 and 1.
+    pub fn level_of(&self, number: u32) -> u8
+        requires { ⌜ Exists (rows (now self)) number ⌝ }
+        ensures { λ r. ⌜ r ≡ level-of (rows (now (self .entry))) number ⌝ }
+    {
+        height(self.get(number))
     }
 
     // Which of two numbers is of higher level.

@@ -1,0 +1,13 @@
+pub mod Shapes
+pub mod Unfolds
+pub mod Sames
+pub mod Firsts
+pub mod Walks
+pub mod Visits
+pub mod Decodes
+pub mod Sheets
+pub mod Placings
+pub mod Tables
+pub mod Tracks
+pub mod Steps
+pub mod Owns

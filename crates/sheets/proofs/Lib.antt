@@ -1,0 +1,5 @@
+pub mod Fronts
+pub mod Tops
+pub mod Keeps
+pub mod Entries
+pub mod Steps
