@@ -1,6 +1,9 @@
 // Nodes by their numbers and their values, for what is built on the store.
 ghost use mathlib.Core.Path.{_≡_};
+ghost use Prim.Native.Nat.{_≤_};
+ghost use lib.ListN.{length};
 ghost use Rattle.diagrams.specs.Bodies.{row};
+ghost use Rattle.diagrams.specs.Table.{Sound};
 ghost use Rattle.store.specs.Views.{view};
 ghost use Rattle.store.specs.Questions.{answered, number-asked};
 ghost use Rattle.store.specs.Steps.{adds, keeps-rules};
@@ -22,6 +25,15 @@ impl<G: Chain, C: Cache> Store<G, C> {
             return Err(Refusal::NoSuchNumber);
         }
         Ok(self.engine.table().get(number))
+    }
+
+    // All nodes in the order of their numbers, the first of which is 2.
+    pub fn nodes(&self) -> &[Node]
+        ensures is { λ r. ⌜ now r ≡ view (now (self .entry)) .nodes ⌝ }
+        ensures sound { λ r. ⌜ Sound (now r) ⌝ }
+        ensures few { λ r. ⌜ length (now r) ≤ 2046 ⌝ }
+    {
+        self.engine.table().nodes()
     }
 
     // Whether four values are those of a node that may stand in the store.
