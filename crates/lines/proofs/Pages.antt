@@ -34,7 +34,7 @@ module _ (p : List ℕ) (at : ℕ) (xs : List ℕ) (fits : at + length xs ≤ le
       let back-is : drop e X ≡ D = ap (drop e) put-front ∙ drop-at (take at p ++ xs) D e long in
       let size : at + length xs + length bs ≡ at + length (xs ++ bs) = omega (arith, length-append xs bs) in
       let rest-is : drop (e + length bs) X ≡ drop (at + length (xs ++ bs)) p =
-          sym (drop-drop (length bs) e X) ∙ ap (drop (length bs)) back-is ∙ drop-drop (length bs) (at + length xs) p ∙ ap (λ n. drop n p) size in
+      sym (drop-drop (length bs) e X) ∙ ap (drop (length bs)) back-is ∙ drop-drop (length bs) (at + length xs) p ∙ ap (λ n. drop n p) size in
       (λ i. front-is i ++ (bs ++ rest-is i))
       ∙ append-assoc (take at p) xs (bs ++ drop (at + length (xs ++ bs)) p)
       ∙ ap (λ l. take at p ++ l) (sym (append-assoc xs bs (drop (at + length (xs ++ bs)) p)))

@@ -51,8 +51,8 @@ visit-step N zero s a b h z lo hi e f (suc d) l = absurd (omega arith)
 visit-step N (suc zero) s a b h z lo hi e f (suc d) l = absurd (omega arith)
 visit-step N (suc (suc i)) s a b h z lo hi e f (suc d) l =
     subst (λ j. getD (s .marks) j 0 ≡ 0 → at N j .lo < suc (suc i) → at N j .hi < suc (suc i) →
-        ((d : ℕ) → at N j .lo < d → mark d N (at N j .lo) s ≡ a) → ((d : ℕ) → at N j .hi < d → mark d N (at N j .hi) a ≡ b) →
-        mark (suc d) N (suc (suc i)) s ≡ give j b) (sym (two-off i)) (visit-at N i s a b d l) z lo hi e f
+    ((d : ℕ) → at N j .lo < d → mark d N (at N j .lo) s ≡ a) → ((d : ℕ) → at N j .hi < d → mark d N (at N j .hi) a ≡ b) →
+    mark (suc d) N (suc (suc i)) s ≡ give j b) (sym (two-off i)) (visit-at N i s a b d l) z lo hi e f
 
 -- what is written for it
 pub given-is : (ms os : List ℕ) (n count v : ℕ) → 2 ≤ n → count < length os → v ≡ count + 2 →

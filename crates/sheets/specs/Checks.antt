@@ -13,7 +13,7 @@ use Rattle.diagrams.specs.Table.{x-of, level-of, count-of}
 use Rattle.diagrams.specs.Rules.{new-node, find}
 use Rattle.forms.specs.Marks.{unmarked, mark}
 use Rattle.sheets.specs.declared.fault.Fault.{Fault}
-use Rattle.sheets.specs.declared.check.Checked.{Checked}
+use Rattle.sheets.specs.declared.checking.Checked.{Checked}
 use Rattle.sheets.specs.Faults.{bad-line, other-chain, bad-node, misnumbered, wrong-count}
 use Rattle.sheets.specs.Format.{head, node-names}
 use Rattle.sheets.specs.Lines.{ask, after, names, values}

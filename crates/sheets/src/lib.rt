@@ -1,12 +1,15 @@
 // Sheets: a set of orders as two tables of numbers in plain bytes.
-mod check;
+mod checking;
 mod fault;
+mod listing;
 mod rows;
 mod texts;
 mod top;
 mod visit;
+mod writing;
 
-pub use check::Checked;
+pub use checking::Checked;
+pub use checking::check;
 pub use fault::Fault;
 pub use fault::FaultDebug;
 pub use fault::FaultEq;
@@ -15,5 +18,7 @@ pub use fault::Part;
 pub use fault::PartDebug;
 pub use fault::PartEq;
 pub use fault::PartPartialEq;
+pub use listing::list_lines;
 pub use visit::Numbering;
 pub use visit::numbered;
+pub use writing::write_sheet;

@@ -73,12 +73,23 @@ fn enter(line: NodeLine, pieces: u8, table: &mut Table, lines: &mut Filled<NodeL
     ensures list { λ _. ⌜ length (room-of (now (lines .exit))) ≡ length (room-of (now (lines .entry))) ⌝ }
     ensures lender { λ _. ⌜ name (now (lines .exit) .room) ≡ name (now (lines .entry) .room) ⌝ }
 {
-    let _ = table.node(2046, line.x as u8, line.y as u8, line.lo as u32, line.hi as u32);
+    let _ = table.node(
+        2046,
+        line.x as u8,
+        line.y as u8,
+        line.lo as u32,
+        line.hi as u32,
+    );
     let _ = lines.add(line);
 }
 
 // One node line: 14, then 16. What keeps the rules goes into the table and the list.
-fn read_row<'a>(text: &'a [u8], pieces: u8, table: &mut Table, lines: &mut Filled<NodeLine>) -> Result<&'a [u8], Fault>
+fn read_row<'a>(
+    text: &'a [u8],
+    pieces: u8,
+    table: &mut Table,
+    lines: &mut Filled<NodeLine>,
+) -> Result<&'a [u8], Fault>
     requires tabled { ⌜ rowsOf (now table) ≡ tabled (items-of (now lines)) ⌝ }
     requires room { ⌜ length (items-of (now lines)) < 2046 ⌝ }
     requires list { ⌜ 2046 ≤ length (room-of (now lines)) ⌝ }
@@ -103,7 +114,13 @@ fn read_row<'a>(text: &'a [u8], pieces: u8, table: &mut Table, lines: &mut Fille
 }
 
 // So many node lines, one after the other, and what follows them.
-pub(crate) fn read_rows<'a>(text: &'a [u8], count: usize, pieces: u8, table: &mut Table, lines: &mut Filled<NodeLine>) -> Result<&'a [u8], Fault>
+pub(crate) fn read_rows<'a>(
+    text: &'a [u8],
+    count: usize,
+    pieces: u8,
+    table: &mut Table,
+    lines: &mut Filled<NodeLine>,
+) -> Result<&'a [u8], Fault>
     requires tabled { ⌜ rowsOf (now table) ≡ tabled (items-of (now lines)) ⌝ }
     requires room { ⌜ length (items-of (now lines)) + count ≤ 2046 ⌝ }
     requires list { ⌜ 2046 ≤ length (room-of (now lines)) ⌝ }

@@ -33,7 +33,22 @@ fn after_nodes_orders(text: &[u8]) -> Option<&[u8]>
         (λ rest. now (text .entry) ≡ (codes "nodes orders" ++ 10 ∷ []) ++ now rest) ⌝ }
 {
     match text {
-        [b'n', b'o', b'd', b'e', b's', b' ', b'o', b'r', b'd', b'e', b'r', b's', b'\n', rest @ ..] => Some(rest),
+        [
+            b'n',
+            b'o',
+            b'd',
+            b'e',
+            b's',
+            b' ',
+            b'o',
+            b'r',
+            b'd',
+            b'e',
+            b'r',
+            b's',
+            b'\n',
+            rest @ ..,
+        ] => Some(rest),
         _ => None,
     }
 }
@@ -56,7 +71,19 @@ pub(crate) fn after_node_names(text: &[u8]) -> Result<&[u8], Fault>
     ensures { λ r. ⌜ Cases r (λ rest. names node-names 3 (now (text .entry)) ≡ Ok (now rest)) (λ f. names node-names 3 (now (text .entry)) ≡ Err f) ⌝ }
 {
     match text {
-        [b'x', b' ', b'y', b' ', b'l', b'o', b' ', b'h', b'i', b'\n', rest @ ..] => Ok(rest),
+        [
+            b'x',
+            b' ',
+            b'y',
+            b' ',
+            b'l',
+            b'o',
+            b' ',
+            b'h',
+            b'i',
+            b'\n',
+            rest @ ..,
+        ] => Ok(rest),
         _ => Err(Fault::bad_line(3)),
     }
 }

@@ -13,7 +13,7 @@ put-byte-requires c κs =
     let all = length-line (c .args .values .now) in
     let size = c .line-len-len .ensures .bytes in
     let long = long-as (c .args .page .now) (c .put-values-end .last .page) (c .args .at) (written (c .args .values .now))
-        (omega (arith, all, size, c .if-page-len .left, c .if-page-len-2 .left)) (c .put-values-end .ensures .page) in
+    (omega (arith, all, size, c .if-page-len .left, c .if-page-len-2 .left)) (c .put-values-end .ensures .page) in
     omega (arith, all, size, long, c .if-page-len .left, c .if-page-len-2 .left, c .put-values-end .ensures .end)
 
 pub returns : need.returns

@@ -39,7 +39,7 @@ returns-then-not-keeps c =
     let e : values 4 (length ls + 4) text ≡ Ok (held f, rest) = ap (λ n. values 4 (n + 4) text) (sym (c .len .ensures)) ∙ told .1 in
     let is = held-line f (told .0) (length ls + 4) text rest e in
     let no : keeps (c .args .pieces) (tabled ls) (line-from (held f)) ≡ false =
-        ap (keeps (c .args .pieces) (tabled ls)) is ∙ ap (λ N. keeps (c .args .pieces) N (field-line f)) (sym (c .pre .tabled)) ∙ sym (c .if-not-keeps .ensures tt) in
+    ap (keeps (c .args .pieces) (tabled ls)) is ∙ ap (λ N. keeps (c .args .pieces) N (field-line f)) (sym (c .pre .tabled)) ∙ sym (c .if-not-keeps .ensures tt) in
     let o = row-bad (c .args .pieces) ls text (held f) rest e no in
     let fault : bad-node (length ls + 4) ≡ c .bad-node .result = ap (λ n. bad-node (n + 4)) (sym (c .len .ensures)) ∙ sym (c .bad-node .ensures) in
     record {
@@ -67,7 +67,7 @@ returns c =
     let e : values 4 (length ls + 4) text ≡ Ok (held f, rest) = ap (λ n. values 4 (n + 4) text) (sym (c .len .ensures)) ∙ told .1 in
     let is = held-line f (told .0) (length ls + 4) text rest e in
     let yes : keeps (c .args .pieces) (tabled ls) (line-from (held f)) ≡ true =
-        ap (keeps (c .args .pieces) (tabled ls)) is ∙ ap (λ N. keeps (c .args .pieces) N (field-line f)) (sym (c .pre .tabled)) ∙ sym (c .if-not-keeps .ensures tt) in
+    ap (keeps (c .args .pieces) (tabled ls)) is ∙ ap (λ N. keeps (c .args .pieces) N (field-line f)) (sym (c .pre .tabled)) ∙ sym (c .if-not-keeps .ensures tt) in
     let o = row-good (c .args .pieces) ls text (held f) rest e yes in
     record {
       gives = (c .enter .ensures .items ∙ ap (λ (a : NodeLine). ls ++ (a ∷ [])) (sym is) ∙ sym (ap (λ (p : Outcome (List ℕ)). p .0) o), ap (λ (p : Outcome (List ℕ)). p .1) o);

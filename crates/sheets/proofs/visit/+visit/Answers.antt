@@ -64,7 +64,7 @@ returns t c =
     let os = c .visit-count-2 .last .order in
     let r = c .visit-count-2 .result in
     let small : r < length os =
-        omega (arith, one .1, c .visit-count-2 .ensures .left, c .visit-count-2 .ensures .long, c .visit-count-2 .ensures .same, c .visit-count .ensures .long, c .visit-count .ensures .same, c .pre .same) in
+    omega (arith, one .1, c .visit-count-2 .ensures .left, c .visit-count-2 .ensures .long, c .visit-count-2 .ensures .same, c .visit-count .ensures .long, c .visit-count .ensures .same, c .pre .same) in
     record {
       is = λ d h.
           visit-step N n record { marks = c .args .marks .now; order = take (c .args .count) (c .args .order .now) }
