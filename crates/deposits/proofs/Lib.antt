@@ -1,1 +1,2 @@
 pub mod Writings
+pub mod Enters

@@ -11,10 +11,9 @@ use sheets::write_sheet;
 use store::Handle;
 use store::Store;
 
-// Room for the lines of a set.
-const LINES: usize = 2046;
-
-const BLANK: NodeLine = NodeLine {
+// Room for the lines of a set, and what stands there at first.
+pub const LINES: usize = 2046;
+pub const BLANK: NodeLine = NodeLine {
     x: 0,
     y: 0,
     lo: 0,

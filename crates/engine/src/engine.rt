@@ -37,15 +37,15 @@ pub struct Engine<G: Chain, C: Cache> {
 
 impl<G: Chain, C: Cache> Engine<G, C> {
     // An engine with no node, over a cache that is emptied.
-    pub fn new(chain: G, mut cache: C) -> Engine<G, C>
+    pub fn new(chain: G, mut memory: C) -> Engine<G, C>
         ensures bare { λ r. ⌜ rows (r .table) ≡ [] ⌝ }
         ensures emptied { λ r. ⌜ Emptied (recalls (r .cache)) ⌝ }
         ensures kept { λ r. ⌜ ((nodes : ℕ) → Kept table nodes (rows (r .table)) (recalls (r .cache))) ⌝ }
     {
-        cache.empty();
+        memory.empty();
         Engine {
             table: Table::new(),
-            cache,
+            cache: memory,
             chain,
         }
     }
