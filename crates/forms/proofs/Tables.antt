@@ -1,7 +1,9 @@
 -- The nodes of a sheet are a sound table. Assumes nothing.
 use mathlib.Core.Path.{_≡_, refl, sym, ap, ap₂, _∙_, subst}
+use mathlib.Core.Logic.{_⊎_, inl, inr}
 use mathlib.Core.List.{List, [], _∷_, map}
 use Prim.Native.Nat.{ℕ, zero, suc, _+_, _≤_, _<_}
+use native.Mathlib.Nat.{le-refl}
 use native.Mathlib.Omega.{arith}
 use lib.Dec.{eqb}
 use lib.ListN.{length, getD, length-map, List·getD-map}
@@ -11,14 +13,15 @@ use Rattle.diagrams.specs.Level.{level}
 use Rattle.diagrams.specs.Rules.{first}
 use Rattle.diagrams.specs.Table.{blank, at, Exists, x-of, y-of, lo-of, hi-of, level-of, count-of, NodeOk, Same, Sound}
 use Rattle.diagrams.proofs.Pushes.{first-here}
-use Rattle.forms.specs.Forms.{Form, form}
+use Rattle.forms.specs.Forms.{Form, none, one, branch, form, top-x, top-y, Fits, Well}
 use Rattle.lists.specs.declared.node_line.NodeLine.{NodeLine}
 use Rattle.forms.specs.Visits.{Sheet, sheet, read}
 use Rattle.forms.specs.Visits as visits
 use Rattle.forms.specs.Walks.{place-in, given, reached, line-of, sheet-of, node-of, table-of, as-line}
-use Rattle.forms.specs.Facts.{Reached}
+use Rattle.forms.specs.Facts.{Within, Reached}
 use Rattle.forms.specs.Marks.{Stands, Placed, taken}
 use Rattle.forms.specs.Theorems.{TableOf}
+use Rattle.forms.proofs.Unfolds.{form-x, form-well}
 use Rattle.forms.proofs.Walks.{sheet-same}
 use Rattle.forms.proofs.Decodes.{read-sheet}
 use Rattle.forms.proofs.Sheets.{reached-stands, root-known}
@@ -37,6 +40,22 @@ pub taken-given : (L : List ℕ) (k : ℕ) → given L k < suc (suc (length L)) 
 taken-given L zero h = refl
 taken-given L (suc zero) h = refl
 taken-given L (suc (suc i)) h = sym (eqb-true _ _ (first-here (eqb (suc (suc i))) 0 L (omega arith)))
+
+-- a form within another has no larger x
+within-x : (g f : Form) → Well f → Within g f → top-x g ≤ top-x f
+within-x g none w i = rw i (le-refl _)
+within-x g one w i = rw i (le-refl _)
+within-x g (branch x y lo hi) w i = by (w .0) (within-x g lo (w .1 .0)) (within-x g hi (w .1 .1)) i
+  where
+    under : (top-x lo < x) ⊎ ((top-x lo ≡ x) × (y < top-y lo)) → top-x lo ≤ x
+    under (inl a) = omega arith
+    under (inr a) = omega arith
+
+    by : Fits x y lo hi → (Within g lo → top-x g ≤ top-x lo) → (Within g hi → top-x g ≤ top-x hi) →
+        (g ≡ branch x y lo hi) ⊎ (Within g lo ⊎ Within g hi) → top-x g ≤ x
+    by k a b (inl q) = rw q (le-refl _)
+    by k a b (inr (inl q)) = let h = a q in omega (arith, under (k .lo-under))
+    by k a b (inr (inr q)) = let h = b q in omega (arith, k .hi-under)
 
 module _ (N : List Node) (S : Sound N) (n : ℕ) (e : Exists N n) where
   abbrev L : List ℕ
@@ -159,6 +178,14 @@ module _ (N : List Node) (S : Sound N) (n : ℕ) (e : Exists N n) where
     stands = λ i h. rw (line-at i) (stands i (omega (arith, length-map L (line-of N L))));
   }
 
+  -- what is within a set has no larger x
+  x-under : (i : ℕ) → i < length T → at T i .x ≤ x-of N n
+  x-under i h =
+      let l : i < length L = omega (arith, long) in
+      let m = getD L i 0 in
+      let w = within-x (form N m) (form N n) (form-well N S n e) (R .only i l) in
+      rw (at-is i) (omega (arith, form-x N S m (R .nodes i l .1), form-x N S n e))
+
   pub table-stands : TableOf N n
   unfolding sheet-of table-of
   table-stands =
@@ -172,5 +199,7 @@ module _ (N : List Node) (S : Sound N) (n : ℕ) (e : Exists N n) where
         lines = lines-are;
         there = there;
         root = f;
+        count = count-same n k;
+        x-most = x-under;
         again = sheet-same T sound (given L n) there ∙ ap sheet f ∙ sym (sheet-same N S n e);
       }

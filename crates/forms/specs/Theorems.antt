@@ -6,7 +6,7 @@ use Prim.Native.Nat.{ℕ, suc, _≤_, _<_}
 use Rattle.orders.specs.declared.order.Order.{Order}
 use Rattle.orders.specs.Chains.{ChainLaws}
 use Rattle.diagrams.specs.declared.Node.{Node}
-use Rattle.diagrams.specs.Table.{Exists, Sound, Extends, In}
+use Rattle.diagrams.specs.Table.{at, Exists, Sound, Extends, In, x-of, count-of}
 use Rattle.diagrams.specs.Moves.{Moves}
 use lib.ListN.{length, getD}
 use Rattle.forms.specs.Forms.{Form, form}
@@ -65,6 +65,9 @@ pub record TableOf (N : List Node) (n : ℕ) : Type 0 where
   pub lines : map as-line (table-of N n) ≡ sheet-of N n .lines
   pub there : Exists (table-of N n) (sheet-of N n .root)
   pub root : form (table-of N n) (sheet-of N n .root) ≡ form N n
+  -- the root has its count there, and no node a larger x
+  pub count : count-of (table-of N n) (sheet-of N n .root) ≡ count-of N n
+  pub x-most : (i : ℕ) → i < length (table-of N n) → at (table-of N n) i .x ≤ x-of N n
   pub again : sheet-of (table-of N n) (sheet-of N n .root) ≡ sheet-of N n
 
 abbrev pub TableStands : Type 0

@@ -6,3 +6,5 @@ pub mod Steps
 pub mod Endings
 pub mod Listings
 pub mod Sheets
+pub mod Accepts
+pub mod Accepted

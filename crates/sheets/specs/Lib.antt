@@ -4,3 +4,4 @@ pub mod Lines
 pub mod Visits
 pub mod Checks
 pub mod Gives
+pub mod Theorems

@@ -1,4 +1,4 @@
-// The lines of a sheet, taken off the front of its text.
+// The lines of a sheet or a book, taken off the front of its text.
 ghost use mathlib.Core.Path.{_≡_};
 ghost use mathlib.Core.List.{List, _++_, _∷_, []};
 ghost use Prim.Native.Nat.{ℕ};
@@ -89,7 +89,7 @@ pub(crate) fn after_node_names(text: &[u8]) -> Result<&[u8], Fault>
 }
 
 // The values of the first line, if there are exactly so many, and what follows it.
-pub(crate) fn line_values(text: &[u8], line: u64, count: usize) -> Result<(Fields, &[u8]), Fault>
+pub fn line_values(text: &[u8], line: u64, count: usize) -> Result<(Fields, &[u8]), Fault>
     ensures { λ r. ⌜ Cases r
         (λ p. Fits (p .0) × (values count line (now (text .entry)) ≡ Ok (held (p .0), now (p .1))))
         (λ f. values count line (now (text .entry)) ≡ Err f) ⌝ }

@@ -9,6 +9,9 @@ use super::texts::after_head;
 use super::texts::after_node_names;
 use super::texts::line_values;
 
+// How many nodes a sheet may have.
+const MOST_NODES: u64 = 2046;
+
 // What the first table says, and the text after the names of the second.
 #[derive(Clone, Copy)]
 pub(crate) struct TopLines<'a> {
@@ -26,7 +29,7 @@ pub(crate) fn read_top(text: &[u8], chain: u8) -> Result<TopLines<'_>, Fault>
     let text = after_head(text)?;
     let (found, text) = line_values(text, 2, 3)?;
     let nodes = found.values[1];
-    if nodes > 2046 {
+    if nodes > MOST_NODES {
         return Err(Fault::bad_line(2));
     }
     if found.values[0] != u64::from(chain) {
