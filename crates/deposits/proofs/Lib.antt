@@ -1,2 +1,3 @@
 pub mod Writings
 pub mod Enters
+pub mod Sets
