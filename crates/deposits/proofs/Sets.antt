@@ -8,6 +8,7 @@ use borrow.Author.Tests.{eqb-true, eqb-false, ltb-true}
 use lib.Dec.{eqb, ltb}
 use lib.ListN.{length, getD, length-append, length-map, List·getD-map}
 use lib.Seq.{getD-append-seam}
+use Rattle.std.specs.Vec.{made}
 use Rattle.std.specs.declared.option.Option.{Option}
 use Rattle.std.specs.declared.option.Option.the-variants.{Some, None}
 use Rattle.std.specs.declared.result.Result.{Result}
@@ -127,13 +128,13 @@ module _ (g : Moves) where
       let l = taken rs (a .lo) in
       let h = taken rs (a .hi) in
       let asks = keeps-asks w (a .x) (a .y) l h (asked-yes w (a .x) (a .y) l h q) in
-      let made = subst (Makes g (room-of w) (w .nodes) (NodeSet g (w .nodes) (a .x) (a .y) l h)) is (node-makes g (room-of w) (w .nodes) (H .sound) (a .x) (a .y) l h 0 (asks .0)) in
+      let makes = subst (Makes g (room-of w) (w .nodes) (NodeSet g (w .nodes) (a .x) (a .y) l h)) is (node-makes g (room-of w) (w .nodes) (H .sound) (a .x) (a .y) l h 0 (asks .0)) in
       let v = subst (Is (a .x) (a .y) l h) is (values (a .x) (a .y) l h (room-of w) (w .nodes) (asks .2)) in
       record {
-        sound = made .sound;
+        sound = makes .sound;
         long = omega (arith, length-append ps (a ∷ []), length-append rs (m ∷ []), H .long);
-        placed = placing .step (w .nodes) M (made .extends) ps rs (H .long) (H .placed) a m lo hi
-            record { node = v .0; there = made .there; x-is = v .1 .0; y-is = v .1 .1 .0; lo-is = v .1 .1 .1 .0; hi-is = v .1 .1 .1 .1 };
+        placed = placing .step (w .nodes) M (makes .extends) ps rs (H .long) (H .placed) a m lo hi
+            record { node = v .0; there = makes .there; x-is = v .1 .0; y-is = v .1 .1 .0; lo-is = v .1 .1 .1 .0; hi-is = v .1 .1 .1 .1 };
       }
 
   -- all of them
@@ -230,3 +231,7 @@ module _ (g : Moves) (chain : ℕ) (w : View) (S : Sound (w .nodes)) (text : Lis
       by : (o : List NodeLine × Result Checked Fault) → checked (w .plan .pieces) chain text ≡ o → (v, Ok h) ≡ reads-by w o → text ≡ sheet-text chain (v .nodes) (h .number)
       by (ls, Err f) q is = absurd (omega (arith, ap handle-tag is))
       by (ls, Ok c) q is = rooted-by ls c q (enters w [] ls) refl is
+
+  pub own-sheet-made : (v : View) (r : Result Handle Fault) → (v, r) ≡ reads chain w text → made r (λ h. text ≡ sheet-text chain (v .nodes) (h .number))
+  own-sheet-made v (Ok h) is = own-sheet v h is
+  own-sheet-made v (Err f) is = tt

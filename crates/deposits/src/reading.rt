@@ -3,11 +3,13 @@ ghost use mathlib.Core.Path.{_≡_};
 ghost use Prim.Native.Nat.{_+_, _≤_};
 ghost use denote.Ref.{name};
 ghost use lib.ListN.{length};
+ghost use Rattle.std.specs.Vec.{made};
 ghost use Rattle.lists.specs.Items.{items-of, room-of};
 ghost use Rattle.forms.specs.Marks.{taken};
 ghost use Rattle.store.specs.Views.{view};
 ghost use Rattle.store.specs.Does.{Kept};
 ghost use Rattle.deposits.specs.Reading.{enters, Gave, reads};
+ghost use Rattle.deposits.specs.Writing.{sheet-text};
 use super::writing::BLANK;
 use super::writing::LINES;
 use caches::Cache;
@@ -68,11 +70,12 @@ fn enter<G: Chain, C: Cache>(
     }
 }
 
-// Checks a whole sheet, and then finds or adds its nodes in the store, line by line. Answers the set's handle, or the fault: of the sheet, and
-// then nothing has changed, or of the line whose node found no room, and then the nodes made so far stay.
+// Checks a whole sheet, and then finds or adds its nodes in the store, line by line. Answers the set's handle, and the text is that set's own
+// sheet; or the fault: of the sheet, and then nothing has changed, or of the line whose node found no room, and then the nodes made so far stay.
 pub fn read<G: Chain, C: Cache>(store: &mut Store<G, C>, text: &[u8]) -> Result<Handle, Fault>
     requires { ⌜ Kept table recalls (now store) ⌝ }
     ensures is { λ r. ⌜ (view (now (store .exit)), r) ≡ reads number (view (now (store .entry))) (now (text .entry)) ⌝ }
+    ensures sheet { λ r. ⌜ made r (λ h. now (text .entry) ≡ sheet-text number (view (now (store .exit)) .nodes) (h .number)) ⌝ }
     ensures kept { λ _. ⌜ Kept table recalls (now (store .exit)) ⌝ }
 {
     let mut room = [BLANK; LINES];
