@@ -1,3 +1,4 @@
 pub mod Writings
 pub mod Enters
 pub mod Sets
+pub mod Agrees

@@ -50,7 +50,7 @@ use Rattle.deposits.specs.Reading.{in-store, Entry, enters-by, enters, rooted,
 use Rattle.deposits.proofs.Writings.{text-is}
 
 -- how many orders a form has
-counted : Form → ℕ
+pub counted : Form → ℕ
 counted none = 0
 counted one = 1
 counted (branch x y lo hi) = counted lo + counted hi
@@ -66,7 +66,7 @@ count-deep N S (suc b) (suc (suc i)) h e =
     ∙ ap₂ (λ (l m : ℕ). l + m) (count-deep N S b (at N i .lo) (omega (arith, k .lo-below)) (omega (arith, k .lo-below))) (count-deep N S b (at N i .hi) (omega (arith, k .hi-below)) (omega (arith, k .hi-below)))
     ∙ sym (ap counted (form-node N S i (omega arith)))
 
-count-form : (N : List Node) → Sound N → (n : ℕ) → Exists N n → count-of N n ≡ counted (form N n)
+pub count-form : (N : List Node) → Sound N → (n : ℕ) → Exists N n → count-of N n ≡ counted (form N n)
 count-form N S n e = count-deep N S (suc n) n (omega arith) e
 
 -- a node that was found or made has its four values
