@@ -1,0 +1,3 @@
+// Sheets written from stores and read into others.
+#[cfg(test)]
+mod examples;
