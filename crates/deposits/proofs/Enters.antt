@@ -3,7 +3,7 @@ use mathlib.Core.Path.{_≡_, refl, sym, ap, ap₂, subst, _∙_}
 use mathlib.Core.List.{List, [], _∷_, _++_}
 use Prim.Native.Nat.{ℕ, zero, suc, _+_, _-_, _≤_, _<_}
 use native.Mathlib.Omega.{arith}
-use lib.ListN.{length, getD, length-set}
+use lib.ListN.{length, getD}
 use Rattle.std.specs.shelf.Lists.{between}
 use Rattle.std.proofs.shelf.Parts.{first-rest}
 use Rattle.std.proofs.shelf.Lists.{nil-from-length}
@@ -13,15 +13,12 @@ use Rattle.std.specs.declared.result.Result.{Result}
 use Rattle.std.specs.declared.result.Result.the-variants.{Ok, Err}
 use Rattle.orders.specs.declared.refusal.Refusal.{Refusal}
 use Rattle.orders.specs.declared.refusal.Refusal.the-variants.{NoRoom}
-use Rattle.lists.specs.Items.{items-of, room-of, Added}
-use Rattle.lists.specs.declared.filled.Filled.{Filled}
 use Rattle.lists.specs.declared.node_line.NodeLine.{NodeLine}
 use Rattle.diagrams.specs.Moves.{Moves}
 use Rattle.diagrams.specs.Rules as rules
 use Rattle.diagrams.specs.Rules.{done, full, node}
 use Rattle.forms.specs.Marks.{taken}
 use Rattle.forms.specs.Visits.{blank}
-use Rattle.std.specs.Results.{ErrBy}
 use Rattle.sheets.specs.declared.fault.Fault.{Fault}
 use Rattle.sheets.specs.declared.checking.Checked.{Checked}
 use Rattle.sheets.specs.Checks.{checked}
@@ -41,12 +38,6 @@ taken-beyond rs (suc (suc i)) a b = beyond rs i (omega (arith, b))
     beyond [] i h = refl
     beyond (a ∷ l) zero h = absurd (omega arith)
     beyond (a ∷ l) (suc i) h = beyond l i (omega (arith, h))
-
--- a record that is added where there is room
-pub added : {X : Type 0} (before after : Filled X) (a : X) (r : Result ℕ Refusal) → Added before after a r → length (items-of before) < length (room-of before) →
-    (items-of after ≡ items-of before ++ a ∷ []) × (length (room-of after) ≡ length (room-of before))
-added before after a (Ok place) g room = (g .items, ap length (g .room) ∙ length-set (room-of before) place a)
-added before after a (Err why) d room = absurd (omega (arith, d .full))
 
 -- what the store answered, as entering has it
 numbered : Reply → ℕ
@@ -109,11 +100,6 @@ module _ (g : Moves) (w v : View) (rs : List ℕ) (ls : List NodeLine) (some : 0
 pub reads-with : (chain : ℕ) (w : View) (text : List ℕ) (ls : List NodeLine) (r : Result Checked Fault) (pieces code : ℕ) → pieces ≡ w .plan .pieces → code ≡ chain → (ls, r) ≡ checked pieces code text → reads chain w text ≡ reads-by w (ls, r)
 unfolding reads
 reads-with chain w text ls r pieces code p c is = ap₂ (λ (k d : ℕ). reads-by w (checked k d text)) (sym p) (sym c) ∙ ap (reads-by w) (sym is)
-
--- a fault that is passed on
-pub fault-is : {A : Type 0} (f : Fault) (r : Result A Fault) → ErrBy r (λ y. y ≡ f) → r ≡ Err f
-fault-is f (Ok a) h = absurd h
-fault-is f (Err y) h = ap Err h
 
 -- a handle of these two numbers
 abbrev pub handled : View → ℕ → ℕ → View × Result Handle Fault

@@ -122,7 +122,7 @@ module _ (pieces : ℕ) (ls : List NodeLine) (text : List ℕ) where
         ∙ ap (λ t. rows-by ls (ask t (bad-node (length ls + 4)) (Ok (line-from ns, rest))) (λ a rest. (ls ++ (a ∷ []), Ok rest))) e
 
 -- a record that is added where there is room
-pub added : (before after : Filled NodeLine) (a : NodeLine) (r : Result ℕ Refusal) → Added before after a r → length (items-of before) < length (room-of before) →
+pub added : {X : Type 0} (before after : Filled X) (a : X) (r : Result ℕ Refusal) → Added before after a r → length (items-of before) < length (room-of before) →
     (items-of after ≡ items-of before ++ (a ∷ [])) × (length (room-of after) ≡ length (room-of before))
 added before after a (Ok place) g room = (g .items, ap length (g .room) ∙ length-set (room-of before) place a)
 added before after a (Err why) d room = absurd (omega (arith, d .full))

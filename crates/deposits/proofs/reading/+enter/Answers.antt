@@ -12,7 +12,8 @@ use Rattle.forms.specs.Visits.{blank}
 use Rattle.sheets.proofs.Sheets.{length-rest}
 use Rattle.store.specs.Views.{view}
 use Rattle.deposits.specs.Reading.{in-store, Entry, enters, Gave}
-use Rattle.deposits.proofs.Enters.{added, enters-none, enters-found, enters-declined}
+use Rattle.sheets.proofs.Entries.{added}
+use Rattle.deposits.proofs.Enters.{enters-none, enters-found, enters-declined}
 use Rattle.deposits.proofs.reading.+enter.Needs as need
 
 pub enter-requires : need.enter-requires

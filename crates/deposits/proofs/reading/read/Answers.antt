@@ -14,7 +14,8 @@ use Rattle.store.specs.declared.plan.Plan.{Plan}
 use Rattle.store.specs.Views.{View, view}
 use Rattle.deposits.specs.Reading.{Entry, enters, rooted}
 use Rattle.tables.proofs.Rows.{sound-of}
-use Rattle.deposits.proofs.Enters.{reads-with, fault-is, handled}
+use Rattle.sheets.proofs.Endings.{fault-is}
+use Rattle.deposits.proofs.Enters.{reads-with, handled}
 use Rattle.deposits.proofs.Sets.{own-sheet, own-sheet-made}
 use Rattle.deposits.proofs.reading.read.Needs as need
 
