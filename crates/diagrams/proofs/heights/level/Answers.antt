@@ -5,11 +5,11 @@ use Rattle.diagrams.specs.Level.{level}
 use Rattle.diagrams.proofs.LevelTable.{row, rows, listed}
 use Rattle.diagrams.proofs.heights.level.Goals as goal
 
-pub overflow-mul-before : goal.overflow-mul-before
-overflow-mul-before c = omega (arith, slot_within c.args.x c.args.y (omega arith) (omega arith) (omega arith))
+pub overflow_mul-before : goal.overflow_mul-before
+overflow_mul-before c = omega (arith, slot_within c.args.x c.args.y (omega arith) (omega arith) (omega arith))
 
-pub overflow-add-result : goal.overflow-add-result
-overflow-add-result c = omega (arith, slot_within c.args.x c.args.y (omega arith) (omega arith) (omega arith))
+pub overflow_add-result : goal.overflow_add-result
+overflow_add-result c = omega (arith, slot_within c.args.x c.args.y (omega arith) (omega arith) (omega arith))
 
 pub bounds-before : goal.bounds-before
 bounds-before c = slot_within c.args.x c.args.y (omega arith) (omega arith) (omega arith)

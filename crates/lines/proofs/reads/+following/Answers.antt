@@ -8,7 +8,7 @@ use Rattle.lines.proofs.reads.+following.Goals as goal
 pub returns-in-err-value : goal.returns-in-err-value
 returns-in-err-value t c =
     let text = c.args.text.now in
-    rw c.from-residual.ensures
+    rw c.from_residual.ensures
     (first_none text (between 1 (length text) text) _ (after_blank text (omega (arith, ltb-false)) (search rules)) c.in-err-value.ensures)
 
 pub returns-in-err-and : goal.returns-in-err-and
@@ -42,8 +42,8 @@ returns-in-ok-and t c =
     (λ f. later_more text (between 1 (length text) text) rest value blank number (held c.args.so-far) next f one)
     c.following.ensures
 
-pub returns-in-default : goal.returns-in-default
-returns-in-default t c =
+pub returns-in_default : goal.returns-in_default
+returns-in_default t c =
     let text = c.args.text.now in
     let not : get_or text 0 0 ≡ 32 → ⊥ = search rules in
     other_first text _ (λ e. omega (arith, ltb-false, ap length e)) (λ after e. not (ap (λ l. get_or l 0 0) e))

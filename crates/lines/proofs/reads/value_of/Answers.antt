@@ -5,14 +5,14 @@ use Rattle.lines.specs.Format.{Digit, read_on}
 use Rattle.lines.proofs.Fronts.{read_on_small, read_on_more}
 use Rattle.lines.proofs.reads.value_of.Goals as goal
 
-pub overflow-mul-n : goal.overflow-mul-n
-overflow-mul-n c = omega (arith, read_on_small c.args.digits.now c.loop-d.d-index c.requires.digits c.requires.few)
+pub overflow_mul-n : goal.overflow_mul-n
+overflow_mul-n c = omega (arith, read_on_small c.args.digits.now c.loop-d.d-index c.requires.digits c.requires.few)
 
-pub overflow-sub-d : goal.overflow-sub-d
-overflow-sub-d c = (All-get_or Digit c.args.digits.now c.loop-d.d-index 0 c.loop-d-test.true c.requires.digits).0
+pub overflow_sub-d : goal.overflow_sub-d
+overflow_sub-d c = (All-get_or Digit c.args.digits.now c.loop-d.d-index 0 c.loop-d-test.true c.requires.digits).0
 
-pub overflow-add-n : goal.overflow-add-n
-overflow-add-n c =
+pub overflow_add-n : goal.overflow_add-n
+overflow_add-n c =
     let digit : Digit (get_or c.args.digits.now c.loop-d.d-index 0) = All-get_or Digit _ _ 0 c.loop-d-test.true c.requires.digits in
     omega (arith, read_on_small c.args.digits.now c.loop-d.d-index c.requires.digits c.requires.few)
 

@@ -15,6 +15,6 @@ returns-in-len1-up t c =
     let long = length_more c.args.values.now some in
     let rest = length_rest c.args.values.now some in
     record {
-      bytes = omega (arith, long, c.digit-len.ensures.digits, c.more-len.ensures.bytes);
-      few = omega (arith, rest, c.digit-len.ensures.few, c.more-len.ensures.few);
+      bytes = omega (arith, long, c.digit_len.ensures.digits, c.more_len.ensures.bytes);
+      few = omega (arith, rest, c.digit_len.ensures.few, c.more_len.ensures.few);
     }

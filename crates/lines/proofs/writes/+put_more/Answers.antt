@@ -5,21 +5,21 @@ use Rattle.lines.specs.Pages.{put}
 use Rattle.lines.proofs.Pages.{length_more, length_rest, put_none, put_three, long_as}
 use Rattle.lines.proofs.writes.+put_more.Goals as goal
 
-pub put-digits-at-requires : goal.put-digits-at-requires
-put-digits-at-requires t c =
+pub put_digits-at-requires : goal.put_digits-at-requires
+put_digits-at-requires t c =
     let some : 0 < length c.args.values.now = omega (arith, ltb-false) in
     let all = length_more c.args.values.now some in
-    let long = long_as c.args.page.now c.put-byte-at.new.page c.args.at (32 ∷ []) (omega (arith, c.requires, all)) c.put-byte-at.ensures.page in
-    omega (arith, all, long, c.requires, c.put-byte-at.ensures.end)
+    let long = long_as c.args.page.now c.put_byte-at.new.page c.args.at (32 ∷ []) (omega (arith, c.requires, all)) c.put_byte-at.ensures.page in
+    omega (arith, all, long, c.requires, c.put_byte-at.ensures.end)
 
-pub put-more-requires : goal.put-more-requires
-put-more-requires t c =
+pub put_more-requires : goal.put_more-requires
+put_more-requires t c =
     let some : 0 < length c.args.values.now = omega (arith, ltb-false) in
     let all = length_more c.args.values.now some in
     let n = get_or c.args.values.now 0 0 in
-    let one = long_as c.args.page.now c.put-byte-at.new.page c.args.at (32 ∷ []) (omega (arith, c.requires, all)) c.put-byte-at.ensures.page in
-    let two = long_as c.put-byte-at.new.page c.put-digits-at.new.page c.put-byte-at.result (decimal n) (omega (arith, c.requires, all, one, c.put-byte-at.ensures.end)) c.put-digits-at.ensures.page in
-    (omega (arith, length_rest c.args.values.now some, c.decreases), omega (arith, all, one, two, c.requires, c.put-byte-at.ensures.end, c.put-digits-at.ensures.end))
+    let one = long_as c.args.page.now c.put_byte-at.new.page c.args.at (32 ∷ []) (omega (arith, c.requires, all)) c.put_byte-at.ensures.page in
+    let two = long_as c.put_byte-at.new.page c.put_digits-at.new.page c.put_byte-at.result (decimal n) (omega (arith, c.requires, all, one, c.put_byte-at.ensures.end)) c.put_digits-at.ensures.page in
+    (omega (arith, length_rest c.args.values.now some, c.decreases), omega (arith, all, one, two, c.requires, c.put_byte-at.ensures.end, c.put_digits-at.ensures.end))
 
 pub returns-in-empty : goal.returns-in-empty
 returns-in-empty t c =
@@ -34,8 +34,8 @@ returns-in-len1-up t c =
     let some : 0 < length c.args.values.now = omega (arith, ltb-false) in
     let all = length_more c.args.values.now some in
     record {
-      end = omega (arith, all, c.put-byte-at.ensures.end, c.put-digits-at.ensures.end, c.put-more.ensures.end);
-      page = put_three c.args.values.now some c.args.page.now c.put-byte-at.new.page c.put-digits-at.new.page c.put-more.new.page
-          c.args.at c.put-byte-at.result c.put-digits-at.result c.requires c.put-byte-at.ensures.end c.put-digits-at.ensures.end
-          c.put-byte-at.ensures.page c.put-digits-at.ensures.page c.put-more.ensures.page;
+      end = omega (arith, all, c.put_byte-at.ensures.end, c.put_digits-at.ensures.end, c.put_more.ensures.end);
+      page = put_three c.args.values.now some c.args.page.now c.put_byte-at.new.page c.put_digits-at.new.page c.put_more.new.page
+          c.args.at c.put_byte-at.result c.put_digits-at.result c.requires c.put_byte-at.ensures.end c.put_digits-at.ensures.end
+          c.put_byte-at.ensures.page c.put_digits-at.ensures.page c.put_more.ensures.page;
     }

@@ -5,18 +5,18 @@ use Rattle.lines.specs.Pages.{put}
 use Rattle.lines.proofs.Pages.{length_written, put_none, put_two, long_as}
 use Rattle.lines.proofs.writes.put_values.Goals as goal
 
-pub put-digits-at-requires : goal.put-digits-at-requires
-put-digits-at-requires c =
+pub put_digits-at-requires : goal.put_digits-at-requires
+put_digits-at-requires c =
     let some : 0 < length c.args.values.now = omega (arith, ltb-false) in
     omega (arith, length_written c.args.values.now some, c.requires)
 
-pub put-more-requires : goal.put-more-requires
-put-more-requires c =
+pub put_more-requires : goal.put_more-requires
+put_more-requires c =
     let some : 0 < length c.args.values.now = omega (arith, ltb-false) in
     let all = length_written c.args.values.now some in
     let n = get_or c.args.values.now 0 0 in
-    let long = long_as c.args.page.now c.put-digits-at.new.page c.args.at (decimal n) (omega (arith, c.requires, all)) c.put-digits-at.ensures.page in
-    omega (arith, all, long, c.requires, c.put-digits-at.ensures.end)
+    let long = long_as c.args.page.now c.put_digits-at.new.page c.args.at (decimal n) (omega (arith, c.requires, all)) c.put_digits-at.ensures.page in
+    omega (arith, all, long, c.requires, c.put_digits-at.ensures.end)
 
 pub returns-in-empty : goal.returns-in-empty
 returns-in-empty c =
@@ -31,7 +31,7 @@ returns-in-len1-up c =
     let some : 0 < length c.args.values.now = omega (arith, ltb-false) in
     let all = length_written c.args.values.now some in
     record {
-      end = omega (arith, all, c.put-digits-at.ensures.end, c.put-more.ensures.end);
-      page = put_two c.args.values.now some c.args.page.now c.put-digits-at.new.page c.put-more.new.page
-          c.args.at c.put-digits-at.result c.requires c.put-digits-at.ensures.end c.put-digits-at.ensures.page c.put-more.ensures.page;
+      end = omega (arith, all, c.put_digits-at.ensures.end, c.put_more.ensures.end);
+      page = put_two c.args.values.now some c.args.page.now c.put_digits-at.new.page c.put_more.new.page
+          c.args.at c.put_digits-at.result c.requires c.put_digits-at.ensures.end c.put_digits-at.ensures.page c.put_more.ensures.page;
     }

@@ -7,7 +7,7 @@ use Rattle.lists.proofs.filled.Filled.read.Goals as goal
 
 pub returns : goal.returns
 returns g c =
-    c.ok-or.ensures.value
+    c.ok_or.ensures.value
     ∙ ap (λ o. ok_or o PastEnd)
     (c.copied.ensures ∙ got _ _ c.get.result c.get.ensures.finds
     ∙ ap (λ xs. slice_get xs c.args.place) c.items.ensures)
