@@ -34,11 +34,11 @@ unfolding rows
 loop-number-init c =
     walk_begin _ _ _ _ _ _ _ c.args.self.now.headed c.bucket.ensures.is c.bucket.ensures.below
 
-pub overflow-cast-i : goal.overflow-cast-i
-overflow-cast-i c = let h = within _ _ _ _ _ _ c.loop-number.invariant c.loop-number-test.true in omega arith
+pub overflow_cast-i : goal.overflow_cast-i
+overflow_cast-i c = let h = within _ _ _ _ _ _ c.loop-number.invariant c.loop-number-test.true in omega arith
 
-pub offset-bounds-self-i : goal.offset-bounds-self-i
-offset-bounds-self-i c = let h = within _ _ _ _ _ _ c.loop-number.invariant c.loop-number-test.true in omega arith
+pub offset_bounds-self-i : goal.offset_bounds-self-i
+offset_bounds-self-i c = let h = within _ _ _ _ _ _ c.loop-number.invariant c.loop-number-test.true in omega arith
 
 pub bounds-self-i : goal.bounds-self-i
 bounds-self-i c = within _ _ _ _ _ _ c.loop-number.invariant c.loop-number-test.true
@@ -46,8 +46,8 @@ bounds-self-i c = within _ _ _ _ _ _ c.loop-number.invariant c.loop-number-test.
 pub returns-then-matches : goal.returns-then-matches
 returns-then-matches c = hit _ _ _ _ _ _ c.loop-number.invariant c.loop-number-test.true c.if-matches.ensures
 
-pub offset-bounds-self-i-in-loop-number : goal.offset-bounds-self-i-in-loop-number
-offset-bounds-self-i-in-loop-number c = let h = within _ _ _ _ _ _ c.loop-number.invariant c.loop-number-test.true in omega arith
+pub offset_bounds-self-i-in-loop-number : goal.offset_bounds-self-i-in-loop-number
+offset_bounds-self-i-in-loop-number c = let h = within _ _ _ _ _ _ c.loop-number.invariant c.loop-number-test.true in omega arith
 
 pub bounds-self-i-in-loop-number : goal.bounds-self-i-in-loop-number
 bounds-self-i-in-loop-number c = within _ _ _ _ _ _ c.loop-number.invariant c.loop-number-test.true

@@ -16,8 +16,8 @@ returns-in-0 c = sym (ap (row (rows c.args.self.now)) c.in-0.is ∙ row_zero (ro
 pub returns-in-1 : goal.returns-in-1
 returns-in-1 c = sym (ap (row (rows c.args.self.now)) c.in-1.is ∙ row_one (rows c.args.self.now))
 
-pub returns-in-default : goal.returns-in-default
-returns-in-default c =
+pub returns-in_default : goal.returns-in_default
+returns-in_default c =
     let t = c.args.self.now in
     let e = length_rows t in
     let two : 2 ≤ c.args.number = omega arith in

@@ -11,10 +11,10 @@ returns-in-Some c = makes_found _ _ _ _ _ _ _ c.if-hi-eq0.false c.in-Some.ensure
 
 pub returns-then-capacity-self : goal.returns-then-capacity-self
 returns-then-capacity-self c =
-    makes_full _ _ _ _ _ _ c.if-hi-eq0.false c.in-default.ensures (omega (arith, length_rows c.args.self.now, c.if-capacity-self.true))
+    makes_full _ _ _ _ _ _ c.if-hi-eq0.false c.in_default.ensures (omega (arith, length_rows c.args.self.now, c.if-capacity-self.true))
 
-pub overflow-add-orders : goal.overflow-add-orders
-overflow-add-orders c =
+pub overflow_add-orders : goal.overflow_add-orders
+overflow_add-orders c =
     let most = sum_fits _ _ _ _ _ _ _ c.get.ensures c.get-2.ensures (sound_of c.args.self.now) c.requires.asks in
     omega arith
 
@@ -22,10 +22,10 @@ pub push-requires : goal.push-requires
 push-requires c = record {
   room = omega (arith, length_rows c.args.self.now, c.requires.capacity, c.if-capacity-self.false);
   sound = new_sound _ _ _ _ _ _ _ c.get.ensures c.get-2.ensures (sound_of c.args.self.now) c.requires.asks
-      c.if-hi-eq0.false c.in-default.ensures;
+      c.if-hi-eq0.false c.in_default.ensures;
 }
 
 pub returns : goal.returns
 returns c =
-    makes_new _ _ _ _ _ _ _ c.get.ensures c.get-2.ensures _ _ _ c.if-hi-eq0.false c.in-default.ensures
+    makes_new _ _ _ _ _ _ _ c.get.ensures c.get-2.ensures _ _ _ c.if-hi-eq0.false c.in_default.ensures
     (omega (arith, length_rows c.args.self.now, c.if-capacity-self.false)) c.push.ensures.rows c.push.ensures.number

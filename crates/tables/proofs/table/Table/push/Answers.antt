@@ -11,33 +11,15 @@ bounds-self-i c = let e = length_rows c.args.self.now in omega (arith, c.require
 pub bounds-self-i-2 : goal.bounds-self-i-2
 bounds-self-i-2 c = let e = length_rows c.args.self.now in omega (arith, c.requires.room)
 
-pub invariant-of-self : goal.invariant-of-self
+pub invariant_of-self : goal.invariant_of-self
 unfolding rows
-invariant-of-self c =
+invariant_of-self c =
     let t = c.args.self.now in
     let a = c.args.node in
     let b = c.bucket-b in
     let e = length_rows t in
     let free : t.len < length t.nodes = omega (arith, t.long, c.requires.room) in
-    let chained : t.len < length t.next = omega (arith, t.deep, c.requires.room) in (
-      length-set _ _ _ ∙ t.long,
-      (
-        length-set _ _ _ ∙ t.wide,
-        (
-          length-set _ _ _ ∙ t.deep,
-          (
-            omega (arith, c.requires.room),
-            (
-              heads_put t.nodes t.len a b.result b.ensures.is b.ensures.below free t.heads t.wide t.headed,
-              (
-                links_put t.nodes t.len a b.result b.ensures.is b.ensures.below free t.heads t.next chained t.headed t.linked,
-                (∣ subst Sound (sym (take_more t.nodes t.len a free)) c.requires.sound ∣₁, tt),
-              ),
-            ),
-          ),
-        ),
-      ),
-    )
+    let chained : t.len < length t.next = omega (arith, t.deep, c.requires.room) in record { long = length-set _ _ _ ∙ t.long; wide = length-set _ _ _ ∙ t.wide; deep = length-set _ _ _ ∙ t.deep; within = omega (arith, c.requires.room); headed = heads_put t.nodes t.len a b.result b.ensures.is b.ensures.below free t.heads t.wide t.headed; linked = links_put t.nodes t.len a b.result b.ensures.is b.ensures.below free t.heads t.next chained t.headed t.linked; sound = ∣ subst Sound (sym (take_more t.nodes t.len a free)) c.requires.sound ∣₁ }
 
 pub returns : goal.returns
 unfolding rows

@@ -3,4 +3,4 @@ use Rattle.tables.proofs.table.hashing.stir.Goals as goal
 
 pub returns : goal.returns
 unfolding stirred turned
-returns c = c.rotate-left.ensures
+returns c = c.rotate_left.ensures
