@@ -35,33 +35,33 @@ returns-then-number-eq1 g t c =
 pub count-low-requires : goal.count-low-requires
 count-low-requires g t c = omega (arith, c.requires, parts g t c)
 
-pub order-at-requires : goal.order-at-requires
-order-at-requires g t c κs within =
-    let p = parts g t (goal.at.order-at-requires g t c).After-get-row in
+pub order_at-requires : goal.order_at-requires
+order_at-requires g t c κs within =
+    let p = parts g t (goal.at.order_at-requires g t c).After-get-row in
     (omega (arith, p, c.decreases), (within, omega (arith, c.requires, p)))
 
 pub returns-then-k-low : goal.returns-then-k-low
 returns-then-k-low g t c =
     let n = node g t (goal.at.returns-then-k-low g t c).After-get-row in
     let q = fetch_low g.G.Chain.table g.met.G.Chain.laws (rows c.args.table.now) (sound_of c.args.table.now) c.args.number c.requires n c.get-row.result c.get-row.ensures
-    c.args.k c.order-at.result (omega (arith, c.count-low.ensures.is, c.if-k-low.true)) c.order-at.ensures.is in
+    c.args.k c.order_at.result (omega (arith, c.count-low.ensures.is, c.if-k-low.true)) c.order_at.ensures.is in
     record { is = q.0; fetched = q.1 }
 
-pub order-at-requires-2 : goal.order-at-requires-2
-order-at-requires-2 g t c κs within =
-    let p = parts g t (goal.at.order-at-requires-2 g t c).After-get-row in
+pub order_at-requires-2 : goal.order_at-requires-2
+order_at-requires-2 g t c κs within =
+    let p = parts g t (goal.at.order_at-requires-2 g t c).After-get-row in
     (omega (arith, p, c.decreases), (within, omega (arith, c.requires, p)))
 
-pub returns-in-err-order : goal.returns-in-err-order
-returns-in-err-order g t c =
-    let r = (goal.at.returns-in-err-order g t c).After-get-row in
+pub returns-in_err-order : goal.returns-in_err-order
+returns-in_err-order g t c =
+    let r = (goal.at.returns-in_err-order g t c).After-get-row in
     absurd (fetch_some g.G.Chain.table g.met.G.Chain.laws (rows c.args.table.now) (sound_of c.args.table.now) c.args.number c.requires (node g t r) c.get-row.result c.get-row.ensures
-    c.args.k c.count-low.result (below g t r) c.count-low.ensures.is c.if-k-low.false c.in-err-order.ensures.fetched)
+    c.args.k c.count-low.result (below g t r) c.count-low.ensures.is c.if-k-low.false c.in_err-order.ensures.fetched)
 
 pub returns : goal.returns
 returns g t c =
     let n = node g t (goal.at.returns g t c).After-get-row in
     let q = fetch_high g.G.Chain.table g.met.G.Chain.laws (rows c.args.table.now) (sound_of c.args.table.now) c.args.number c.requires n c.get-row.result c.get-row.ensures
-    c.args.k c.count-low.result c.in-ok-order.order c.step.result c.then.result c.count-low.ensures.is c.if-k-low.false c.in-ok-order.ensures.is
+    c.args.k c.count-low.result c.in_ok-order.order c.step.result c.then.result c.count-low.ensures.is c.if-k-low.false c.in_ok-order.ensures.is
     c.step.ensures c.then.ensures in
     record { is = q.0; fetched = q.1 }

@@ -1,4 +1,4 @@
 use Rattle.numbering.proofs.reading.+order_at.Given as goal
 
-abbrev pub decreases-order-at : goal.decreases-order-at
-decreases-order-at g l = l.number
+abbrev pub decreases-order_at : goal.decreases-order_at
+decreases-order_at g l = l.number

@@ -34,44 +34,44 @@ returns-else-eq g t c =
     (λ e. false≢true (sym c.if-eq.false ∙ c.eq.ensures.1 (e ∙ sym c.standing.ensures))) in
     record { is = q.0; placed = q.1 }
 
-pub place-of-requires : goal.place-of-requires
-place-of-requires g t c κs within =
-    let p = parts g t (goal.at.place-of-requires g t c).After-get-row in
+pub place_of-requires : goal.place_of-requires
+place_of-requires g t c κs within =
+    let p = parts g t (goal.at.place_of-requires g t c).After-get-row in
     (omega (arith, p, c.decreases), (within, omega (arith, c.requires, p)))
 
 pub returns-then-place-row : goal.returns-then-place-row
 returns-then-place-row g t c =
     let n = node g t (goal.at.returns-then-place-row g t c).After-get-row in
     let q = place_low g.G.Chain.table g.met.G.Chain.laws (rows c.args.table.now) (sound_of c.args.table.now) c.args.number c.requires n c.get-row.result c.get-row.ensures
-    c.args.order c.place-of.result c.place.result c.place.ensures c.if-place-row.true c.place-of.ensures.is in
+    c.args.order c.place_of.result c.place.result c.place.ensures c.if-place-row.true c.place_of.ensures.is in
     record { is = q.0; placed = q.1 }
 
-pub place-of-requires-2 : goal.place-of-requires-2
-place-of-requires-2 g t c κs within =
-    let p = parts g t (goal.at.place-of-requires-2 g t c).After-get-row in
+pub place_of-requires-2 : goal.place_of-requires-2
+place_of-requires-2 g t c κs within =
+    let p = parts g t (goal.at.place_of-requires-2 g t c).After-get-row in
     (omega (arith, p, c.decreases), (within, omega (arith, c.requires, p)))
 
-pub returns-in-err-k : goal.returns-in-err-k
-returns-in-err-k g t c =
-    let r = (goal.at.returns-in-err-k g t c).After-get-row in
+pub returns-in_err-k : goal.returns-in_err-k
+returns-in_err-k g t c =
+    let r = (goal.at.returns-in_err-k g t c).After-get-row in
     let q = place_gone g.G.Chain.table g.met.G.Chain.laws (rows c.args.table.now) (sound_of c.args.table.now) c.args.number c.requires (node g t r) c.get-row.result c.get-row.ensures
-    c.args.order c.step.result c.inverse.result c.then.result c.place.result c.place.ensures c.if-place-row.false c.step.ensures c.inverse.ensures c.then.ensures c.in-err-k.ensures.is in
-    record { is = c.from-residual.ensures ∙ q.0; placed = rw c.from-residual.ensures q.1 }
+    c.args.order c.step.result c.inverse.result c.then.result c.place.result c.place.ensures c.if-place-row.false c.step.ensures c.inverse.ensures c.then.ensures c.in_err-k.ensures.is in
+    record { is = c.from_residual.ensures ∙ q.0; placed = rw c.from_residual.ensures q.1 }
 
 pub count-requires : goal.count-requires
 count-requires g t c = omega (arith, c.requires, parts g t (goal.at.count-requires g t c).After-get-row)
 
-pub overflow-add-result : goal.overflow-add-result
-overflow-add-result g t c =
-    let p = parts g t (goal.at.overflow-add-result g t c).After-get-row in
+pub overflow_add-result : goal.overflow_add-result
+overflow_add-result g t c =
+    let p = parts g t (goal.at.overflow_add-result g t c).After-get-row in
     let fits = place_fits g.G.Chain.table g.met.G.Chain.laws (rows c.args.table.now) (sound_of c.args.table.now) c.get-row.result.lo c.get-row.result.hi
-    (omega (arith, c.requires, p)) (omega (arith, c.requires, p)) c.then.result c.in-ok-k.k c.count.result c.in-ok-k.ensures.placed c.count.ensures.is in
+    (omega (arith, c.requires, p)) (omega (arith, c.requires, p)) c.then.result c.in_ok-k.k c.count.result c.in_ok-k.ensures.placed c.count.ensures.is in
     omega arith
 
 pub returns : goal.returns
 returns g t c =
     let r = (goal.at.returns g t c).After-get-row in
     let q = place_high g.G.Chain.table g.met.G.Chain.laws (rows c.args.table.now) (sound_of c.args.table.now) c.args.number c.requires (node g t r) c.get-row.result c.get-row.ensures
-    c.args.order c.step.result c.inverse.result c.then.result c.in-ok-k.k c.count.result c.place.result c.place.ensures c.if-place-row.false
-    c.step.ensures c.inverse.ensures c.then.ensures c.in-ok-k.ensures.is c.count.ensures.is in
+    c.args.order c.step.result c.inverse.result c.then.result c.in_ok-k.k c.count.result c.place.result c.place.ensures c.if-place-row.false
+    c.step.ensures c.inverse.ensures c.then.ensures c.in_ok-k.ensures.is c.count.ensures.is in
     record { is = q.0; placed = q.1 }

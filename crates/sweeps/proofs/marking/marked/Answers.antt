@@ -10,14 +10,14 @@ roots-marks-requires c = λ p n e. omega (arith, c.requires p n e, rows_within c
 pub loop-i-init : goal.loop-i-init
 loop-i-init c = λ pegs M. rw c.len-i.ensures.is M
 
-pub mark-parts-requires : goal.mark-parts-requires
-mark-parts-requires c = record { node = omega arith; there = omega (arith, c.loop-i.auto.i, c.loop-i-test.true, c.len-i.ensures.is) }
+pub mark_parts-requires : goal.mark_parts-requires
+mark_parts-requires c = record { node = omega arith; there = omega (arith, c.loop-i.auto.i, c.loop-i-test.true, c.len-i.ensures.is) }
 
 pub loop-i-preserved : goal.loop-i-preserved
 loop-i-preserved c = λ pegs M.
     let t = c.args.table.now in
-    marking_down (rows t) pegs (sound_of t) (rows_within t) c.loop-i.i c.loop-i.marks c.mark-parts.new.marks c.loop-i-test.true
-    (omega (arith, c.loop-i.auto.i, c.len-i.ensures.is)) (c.loop-i.invariant pegs M) c.mark-parts.ensures
+    marking_down (rows t) pegs (sound_of t) (rows_within t) c.loop-i.i c.loop-i.marks c.mark_parts.new.marks c.loop-i-test.true
+    (omega (arith, c.loop-i.auto.i, c.len-i.ensures.is)) (c.loop-i.invariant pegs M) c.mark_parts.ensures
 
 pub returns : goal.returns
 returns c = λ n e.

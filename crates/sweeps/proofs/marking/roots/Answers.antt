@@ -5,11 +5,11 @@ use Rattle.sweeps.proofs.marking.roots.Goals as goal
 pub loop-p-init : goal.loop-p-init
 loop-p-init c = rooted_none c.args.pegs
 
-pub mark-peg-requires : goal.mark-peg-requires
-mark-peg-requires c = λ n e. c.requires c.loop-p.p n e
+pub mark_peg-requires : goal.mark_peg-requires
+mark_peg-requires c = λ n e. c.requires c.loop-p.p n e
 
 pub loop-p-preserved : goal.loop-p-preserved
-loop-p-preserved c = rooted_more c.args.pegs c.loop-p.p c.loop-p.marks c.loop-p.invariant _ _ refl (λ n e. c.requires c.loop-p.p n e) c.mark-peg.ensures
+loop-p-preserved c = rooted_more c.args.pegs c.loop-p.p c.loop-p.marks c.loop-p.invariant _ _ refl (λ n e. c.requires c.loop-p.p n e) c.mark_peg.ensures
 
 pub returns : goal.returns
 returns c =

@@ -8,8 +8,8 @@ loop-p-preserved c = (
   c.loop-p.invariant.0,
   rw length-set c.loop-p.invariant.1,
   below_more _ _
-      (λ q h. peg_stays c.loop-p.after c.loop-p.p q c.moved-peg.result _ (omega arith) (c.loop-p.invariant.2 q h))
-      (peg_written c.loop-p.after c.loop-p.p c.moved-peg.result _ (omega (arith, c.loop-p.invariant.1, c.loop-p-test.true)) c.moved-peg.ensures),
+      (λ q h. peg_stays c.loop-p.after c.loop-p.p q c.moved_peg.result _ (omega arith) (c.loop-p.invariant.2 q h))
+      (peg_written c.loop-p.after c.loop-p.p c.moved_peg.result _ (omega (arith, c.loop-p.invariant.1, c.loop-p-test.true)) c.moved_peg.ensures),
 )
 
 pub returns : goal.returns
