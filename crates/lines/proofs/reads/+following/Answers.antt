@@ -5,41 +5,41 @@ use Rattle.lines.specs.Held.{held}
 use Rattle.lines.proofs.Follows.{after_blank, first_none, no_room, other_first, shorter, later_none, later_more, cases_map}
 use Rattle.lines.proofs.reads.+following.Goals as goal
 
-pub returns-in-err-value : goal.returns-in-err-value
-returns-in-err-value t c =
+pub returns-in_err-value-in-32 : goal.returns-in_err-value-in-32
+returns-in_err-value-in-32 t c =
     let text = c.args.text.now in
     rw c.from_residual.ensures
-    (first_none text (between 1 (length text) text) _ (after_blank text (omega (arith, ltb-false)) (search rules)) c.in-err-value.ensures)
+    (first_none text (between 1 (length text) text) _ (after_blank text (omega (arith, ltb-false)) (search rules)) c.in_err-value-in-32.ensures)
 
-pub returns-in-err-and : goal.returns-in-err-and
-returns-in-err-and t c =
+pub returns-in_err-and-in-32 : goal.returns-in_err-and-in-32
+returns-in_err-and-in-32 t c =
     let text = c.args.text.now in
-    rw c.from-residual-in-err-and.ensures
-    (no_room text (between 1 (length text) text) _ (after_blank text (omega (arith, ltb-false)) (search rules)) c.in-err-and.ensures)
+    rw c.from_residual-in_err-and-in-32.ensures
+    (no_room text (between 1 (length text) text) _ (after_blank text (omega (arith, ltb-false)) (search rules)) c.in_err-and-in-32.ensures)
 
 pub following-requires : goal.following-requires
 following-requires t c =
     let text = c.args.text.now in
     let blank = after_blank text (omega (arith, ltb-false)) (search rules) in
-    let less = shorter text (between 1 (length text) text) c.in-ok-value.rest.now c.in-ok-value.value blank c.in-ok-value.ensures in
-    (omega (arith, less, c.decreases), c.in-ok-and.ensures.0)
+    let less = shorter text (between 1 (length text) text) c.in_ok-value-in-32.rest.now c.in_ok-value-in-32.value blank c.in_ok-value-in-32.ensures in
+    (omega (arith, less, c.decreases), c.in_ok-and-in-32.ensures.0)
 
 pub returns-in-empty : goal.returns-in-empty
-returns-in-empty t c = (c.requires, ([], tt, sym (append-nil (held c.args.so-far)), nil_from_length _ (omega (arith, ltb-true))))
+returns-in-empty t c = (c.requires, ([], tt, sym (append-nil (held c.args.so_far)), nil_from_length _ (omega (arith, ltb-true))))
 
-pub returns-in-ok-and : goal.returns-in-ok-and
-returns-in-ok-and t c =
+pub returns-in_ok-and-in-32 : goal.returns-in_ok-and-in-32
+returns-in_ok-and-in-32 t c =
     let text = c.args.text.now in
     let blank = after_blank text (omega (arith, ltb-false)) (search rules) in
-    let number = c.in-ok-value.ensures in
-    let next = c.in-ok-and.field-0 in
-    let one = c.in-ok-and.ensures.1 in
-    let rest = c.in-ok-value.rest.now in
-    let value = c.in-ok-value.value in
+    let number = c.in_ok-value-in-32.ensures in
+    let next = c.in_ok-and-in-32.field-0 in
+    let one = c.in_ok-and-in-32.ensures.1 in
+    let rest = c.in_ok-value-in-32.rest.now in
+    let value = c.in_ok-value-in-32.value in
     cases_map _ _ _ _ c.following.result
-    (later_none text (between 1 (length text) text) rest value blank number (length (held c.args.so-far)) (length (held next))
-    (omega (arith, ap length one, length-append (held c.args.so-far) (value ∷ []))))
-    (λ f. later_more text (between 1 (length text) text) rest value blank number (held c.args.so-far) next f one)
+    (later_none text (between 1 (length text) text) rest value blank number (length (held c.args.so_far)) (length (held next))
+    (omega (arith, ap length one, length-append (held c.args.so_far) (value ∷ []))))
+    (λ f. later_more text (between 1 (length text) text) rest value blank number (held c.args.so_far) next f one)
     c.following.ensures
 
 pub returns-in_default : goal.returns-in_default

@@ -1,4 +1,4 @@
 use Rattle.lines.proofs.writes.+digit_len.Given as goal
 
-abbrev pub decreases-digit-len : goal.decreases-digit-len
-decreases-digit-len l = l.n
+abbrev pub decreases-digit_len : goal.decreases-digit_len
+decreases-digit_len l = l.n

@@ -1,5 +1,5 @@
 use Rattle.std.proofs.Common.{length}
 use Rattle.lines.proofs.writes.+more_len.Given as goal
 
-abbrev pub decreases-more-len : goal.decreases-more-len
-decreases-more-len l = length l.values.now
+abbrev pub decreases-more_len : goal.decreases-more_len
+decreases-more_len l = length l.values.now

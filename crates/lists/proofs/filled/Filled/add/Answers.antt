@@ -13,5 +13,5 @@ returns g c =
         items = take_more_set _ _ c.args.item free;
         room = refl {a = set c.args.self.now.room.now c.args.self.now.len c.args.item};
       };
-      lender = refl {a = c.args.self.now.room.name};
+      lender = refl {a = c.args.self.now.room.ghost_name};
     }

@@ -9,5 +9,5 @@ pub returns : goal.returns
 returns g c =
     c.ok_or.ensures.value
     ∙ ap (λ o. ok_or o PastEnd)
-    (c.copied.ensures ∙ got _ _ c.get.result c.get.ensures.finds
+    (c.copied.ensures ∙ got _ _ c.get.result c.get.ensures.lookup
     ∙ ap (λ xs. slice_get xs c.args.place) c.items.ensures)
