@@ -2,11 +2,11 @@
 ghost use Rattle.std.specs.Prelude.{◌≡◌, ℕ, [], IfOk, Some, None};
 ghost use Rattle.caches.specs.Recall.{Emptied};
 ghost use Rattle.diagrams.specs.declared.Task.TheVariants.{Join};
-ghost use Rattle.diagrams.specs.Rules.{Asks, node as nodeRule};
+ghost use Rattle.diagrams.specs.Rules.{Asks, node as node_rule};
 ghost use Rattle.diagrams.specs.Script.{answer, make, enter, go};
 ghost use Rattle.diagrams.specs.Bodies.{first_of, body};
 ghost use Rattle.diagrams.specs.Work.{Valid, task as task_of};
-ghost use Rattle.diagrams.specs.Outright.{outright as outrightOf, kind_of, right_of};
+ghost use Rattle.diagrams.specs.Outright.{outright as outright_of, kind_of, right_of};
 ghost use Rattle.tables.specs.Rows.{rows, Makes};
 ghost use Rattle.engine.specs.Kept.{Kept};
 ghost use Rattle.engine.specs.Answers.{As, Does, Forgets, Once};
@@ -33,8 +33,8 @@ impl<G: Chain, C: Cache> Engine<G, C> {
     // An engine with no node, over a cache that is emptied.
     pub fn new(chain: G, mut memory: C) -> Engine<G, C>
         ensures bare { rows result.table ≡ [] }
-        ensures emptied { Emptied (recalls result.cache) }
-        ensures kept { (nodes : ℕ) → Kept table nodes (rows result.table) (recalls result.cache) }
+        ensures emptied { Emptied (C.recalls result.cache) }
+        ensures kept { (nodes : ℕ) → Kept G.table nodes (rows result.table) (C.recalls result.cache) }
     {
         memory.empty();
         Engine {
@@ -54,8 +54,8 @@ impl<G: Chain, C: Cache> Engine<G, C> {
     // Another table stands in the place of this one, and the cache forgets what it knew.
     pub fn replace(&mut self, fresh: Table)
         ensures table { self.new.table ≡ fresh }
-        ensures emptied { Emptied (recalls self.new.cache) }
-        ensures kept { (nodes : ℕ) → Kept table nodes (rows self.new.table) (recalls self.new.cache) }
+        ensures emptied { Emptied (C.recalls self.new.cache) }
+        ensures kept { (nodes : ℕ) → Kept G.table nodes (rows self.new.table) (C.recalls self.new.cache) }
     {
         self.table = fresh;
         self.cache.empty();
@@ -64,9 +64,9 @@ impl<G: Chain, C: Cache> Engine<G, C> {
     // The number of the node with these four values, which is made if there is none and there is room.
     pub fn add(&mut self, room: Room, x: u8, y: u8, lo: u32, hi: u32) -> Result<u32, Refusal>
         requires asks { Asks (rows self.old.table) x y lo hi }
-        requires kept { Kept table room.nodes (rows self.old.table) (recalls self.old.cache) }
-        ensures kept { Kept table room.nodes (rows self.new.table) (recalls self.new.cache) }
-        ensures rule { (n : ℕ) → Makes (nodeRule room.nodes (rows self.old.table) x y lo hi n) (rows self.new.table) n result }
+        requires kept { Kept G.table room.nodes (rows self.old.table) (C.recalls self.old.cache) }
+        ensures kept { Kept G.table room.nodes (rows self.new.table) (C.recalls self.new.cache) }
+        ensures rule { (n : ℕ) → Makes (node_rule room.nodes (rows self.old.table) x y lo hi n) (rows self.new.table) n result }
         ensures cache { self.new.cache ≡ self.old.cache }
     {
         self.table.node(room.nodes(), x, y, lo, hi)
@@ -78,11 +78,11 @@ impl<G: Chain, C: Cache> Engine<G, C> {
     #[cycle(joined_solve_work)]
     pub fn solve(&mut self, room: Room, task: Task) -> Result<Found, Refusal>
         requires valid { Valid (rows self.old.table) task }
-        requires kept { Kept table room.nodes (rows self.old.table) (recalls self.old.cache) }
-        ensures kept { Kept table room.nodes (rows self.new.table) (recalls self.new.cache) }
-        ensures rule { As (Forgets C recalls) (task_of table room.nodes (rows self.old.table) task) (rows self.new.table) result }
-        ensures told { IfOk result (λ j. sure ≡ 1 → outrightOf task ≡ None → recalls self.new.cache (kind_of task) (first_of task) (right_of task) ≡ Some j.number) }
-        ensures once { Once (recalls self.old.cache (kind_of task) (first_of task) (right_of task)) result }
+        requires kept { Kept G.table room.nodes (rows self.old.table) (C.recalls self.old.cache) }
+        ensures kept { Kept G.table room.nodes (rows self.new.table) (C.recalls self.new.cache) }
+        ensures rule { As (Forgets C C.recalls) (task_of G.table room.nodes (rows self.old.table) task) (rows self.new.table) result }
+        ensures told { IfOk result (λ j. C.sure ≡ 1 → outright_of task ≡ None → C.recalls self.new.cache (kind_of task) (first_of task) (right_of task) ≡ Some j.number) }
+        ensures once { Once (C.recalls self.old.cache (kind_of task) (first_of task) (right_of task)) result }
     {
         if let Some(number) = outright(task) {
             return Ok(Found { number, entries: 1 });
@@ -103,10 +103,10 @@ impl<G: Chain, C: Cache> Engine<G, C> {
     #[cycle(joined_solve_work)]
     fn work(&mut self, room: Room, task: Task) -> Result<Found, Refusal>
         requires valid { Valid (rows self.old.table) task }
-        requires work { outrightOf task ≡ None }
-        requires kept { Kept table room.nodes (rows self.old.table) (recalls self.old.cache) }
-        ensures kept { Kept table room.nodes (rows self.new.table) (recalls self.new.cache) }
-        ensures rule { As (Forgets C recalls) (go room.nodes (task_of table room.nodes) (rows self.old.table) (body table (rows self.old.table) task) 0) (rows self.new.table) result }
+        requires work { outright_of task ≡ None }
+        requires kept { Kept G.table room.nodes (rows self.old.table) (C.recalls self.old.cache) }
+        ensures kept { Kept G.table room.nodes (rows self.new.table) (C.recalls self.new.cache) }
+        ensures rule { As (Forgets C C.recalls) (go room.nodes (task_of G.table room.nodes) (rows self.old.table) (body G.table (rows self.old.table) task) 0) (rows self.new.table) result }
     {
         let plan = plan::<G>(&self.table, task);
         let low = self.solve(room, plan.low)?;
@@ -145,9 +145,9 @@ impl<G: Chain, C: Cache> Engine<G, C> {
         entries: u64,
     ) -> Result<Found, Refusal>
         requires asks { Asks (rows self.old.table) x y lo hi }
-        requires kept { Kept table room.nodes (rows self.old.table) (recalls self.old.cache) }
-        ensures kept { Kept table room.nodes (rows self.new.table) (recalls self.new.cache) }
-        ensures rule { Does table room.nodes (Forgets C recalls) (rows self.old.table) entries (make x y lo hi answer) (rows self.new.table) result }
+        requires kept { Kept G.table room.nodes (rows self.old.table) (C.recalls self.old.cache) }
+        ensures kept { Kept G.table room.nodes (rows self.new.table) (C.recalls self.new.cache) }
+        ensures rule { Does G.table room.nodes (Forgets C C.recalls) (rows self.old.table) entries (make x y lo hi answer) (rows self.new.table) result }
     {
         let number = self.add(room, x, y, lo, hi)?;
         Ok(Found { number, entries })
@@ -157,9 +157,9 @@ impl<G: Chain, C: Cache> Engine<G, C> {
     #[cycle(joined_solve_work)]
     fn joined(&mut self, room: Room, a: u32, b: u32, entries: u64) -> Result<Found, Refusal>
         requires valid { Valid (rows self.old.table) (Join a b) }
-        requires kept { Kept table room.nodes (rows self.old.table) (recalls self.old.cache) }
-        ensures kept { Kept table room.nodes (rows self.new.table) (recalls self.new.cache) }
-        ensures rule { Does table room.nodes (Forgets C recalls) (rows self.old.table) entries (enter (Join a b) answer) (rows self.new.table) result }
+        requires kept { Kept G.table room.nodes (rows self.old.table) (C.recalls self.old.cache) }
+        ensures kept { Kept G.table room.nodes (rows self.new.table) (C.recalls self.new.cache) }
+        ensures rule { Does G.table room.nodes (Forgets C C.recalls) (rows self.old.table) entries (enter (Join a b) answer) (rows self.new.table) result }
     {
         let found = self.solve(room, Task::Join(a, b))?;
         Ok(Found {

@@ -1,6 +1,6 @@
 // What can be said of a task with no table: the answer that needs no work, and the triple that it is remembered by.
 ghost use Rattle.std.specs.Prelude.{◌≡◌, if◌then◌else◌};
-ghost use Rattle.diagrams.specs.Outright.{outright as outrightOf};
+ghost use Rattle.diagrams.specs.Outright.{outright as outright_of};
 ghost use Rattle.caches.specs.Recall.{nothing};
 ghost use Rattle.engine.specs.Triples.{some, triple};
 
@@ -35,7 +35,7 @@ fn first_of(test: bool, answer: u32, second: bool, other: u32) -> Option<u32>
 
 // The answer of a task that needs no work.
 pub fn outright(task: Task) -> Option<u32>
-    ensures { result ≡ outrightOf task }
+    ensures { result ≡ outright_of task }
 {
     match task {
         Task::Join(a, b) => first_of(a == 0, b, b == 0 || a == b, a),

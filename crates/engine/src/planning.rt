@@ -5,7 +5,7 @@ ghost use Rattle.orders.specs.Dimension.{dimension};
 ghost use Rattle.diagrams.specs.Table.{Exists, x_of, level_of};
 ghost use Rattle.diagrams.specs.Bodies.{row, side, join_body, meet_body, without_body, carry_body, follow_body, pick_body, from_of, high_body, body};
 ghost use Rattle.diagrams.specs.Work.{Valid};
-ghost use Rattle.diagrams.specs.Outright.{outright as outrightOf};
+ghost use Rattle.diagrams.specs.Outright.{outright as outright_of};
 ghost use Rattle.tables.specs.Rows.{rows};
 ghost use Rattle.engine.specs.Plans.{rest_of, script};
 
@@ -17,8 +17,8 @@ use tables::Table;
 // The plan of a task that is not outright.
 pub fn plan<G: Chain>(nodes: &Table, task: Task) -> Plan
     requires valid { Valid (rows nodes.now) task }
-    requires work { outrightOf task ≡ None }
-    ensures { script result ≡ body table (rows nodes.now) task }
+    requires work { outright_of task ≡ None }
+    ensures { script result ≡ body G.table (rows nodes.now) task }
 {
     match task {
         Task::Join(a, b) => join(nodes, a, b),
@@ -105,7 +105,7 @@ fn without(nodes: &Table, a: u32, b: u32) -> Plan
 // The orders with piece k in place p.
 fn pick<G: Chain>(nodes: &Table, a: u32, k: u8, p: u8) -> Plan
     requires { Exists (rows nodes.now) a }
-    ensures { script result ≡ pick_body (row (rows nodes.now) a) a k p (from_of table (row (rows nodes.now) a) p) false false (k == p) }
+    ensures { script result ≡ pick_body (row (rows nodes.now) a) a k p (from_of G.table (row (rows nodes.now) a) p) false false (k == p) }
 {
     let node = nodes.get(a);
     let from = G::step(node.x, node.y).inverse().place(p);
@@ -118,7 +118,7 @@ fn pick<G: Chain>(nodes: &Table, a: u32, k: u8, p: u8) -> Plan
 // Each order of a followed by each of b.
 fn follow<G: Chain>(nodes: &Table, a: u32, b: u32) -> Plan
     requires { Exists (rows nodes.now) b }
-    ensures { script result ≡ follow_body table (row (rows nodes.now) b) a b false false }
+    ensures { script result ≡ follow_body G.table (row (rows nodes.now) b) a b false false }
 {
     let q = nodes.get(b);
     Plan {
@@ -131,7 +131,7 @@ fn follow<G: Chain>(nodes: &Table, a: u32, b: u32) -> Plan
 // the two parts of a are carried apart and then joined: what h makes of them need not be the two parts of one node.
 fn carry<G: Chain>(nodes: &Table, a: u32, h: Order) -> Plan
     requires { Exists (rows nodes.now) a }
-    ensures { script result ≡ carry_body table (row (rows nodes.now) a) a h false false (nat_lt (x_of (rows nodes.now) a) (dimension h)) }
+    ensures { script result ≡ carry_body G.table (row (rows nodes.now) a) a h false false (nat_lt (x_of (rows nodes.now) a) (dimension h)) }
 {
     let p = nodes.get(a);
     let d = h.dimension();
@@ -150,7 +150,7 @@ fn carry<G: Chain>(nodes: &Table, a: u32, h: Order) -> Plan
 
 // The high part hi of a node of x, carried by k and joined to the low part: under the move of k at x, if there is one.
 fn upper<G: Chain>(x: u8, hi: u32, k: Order) -> Rest
-    ensures { (r : ℕ) → rest_of result r ≡ high_body table x (place k x) hi k r (place k x == x) }
+    ensures { (r : ℕ) → rest_of result r ≡ high_body G.table x (place k x) hi k r (place k x == x) }
 {
     let z = k.place(x);
     if z == x {

@@ -36,22 +36,22 @@ module _ (g : Moves) where
       pub whole : (n : ℕ) → n ≤ 16 → x ≤ n → remains g a n ≡ a
       whole n h l = left_whole (16 - n) n (omega arith) l
 
-      pub factor_at : (z : ℕ) → z ≤ 16 → x ≤ z → factor_at g a z ≡ place a z
-      factor_at z h l = factor_is g a z ∙ ap (λ (o : Order). place o z) (whole z h l)
+      pub factor_placed : (z : ℕ) → z ≤ 16 → x ≤ z → factor_at g a z ≡ place a z
+      factor_placed z h l = factor_is g a z ∙ ap (λ (o : Order). place o z) (whole z h l)
 
       pub factor_above : (z : ℕ) → x < z → factor_at g a z ≡ z
       factor_above z l = by (dec_lt 16 z)
         where
           by : Dec (16 < z) → factor_at g a z ≡ z
           by (yes h) = factor_out a z h
-          by (no h) = factor_at z (omega arith) (omega arith) ∙ still z l
+          by (no h) = factor_placed z (omega arith) (omega arith) ∙ still z l
 
     -- of two orders that leave what is above x, the one that takes x higher comes first
     pub higher_first : (x : ℕ) (a b : Order) → x ≤ 16 → StillAbove a x → StillAbove b x → place b x < place a x → Before g a b
     higher_first x a b h sa sb l = record {
       x = x;
       above = λ z q. factor_above a x sa z q ∙ sym (factor_above b x sb z q);
-      greater = omega (arith, factor_at a x sa x h (omega arith), factor_at b x sb x h (omega arith));
+      greater = omega (arith, factor_placed a x sa x h (omega arith), factor_placed b x sb x h (omega arith));
     }
 
     -- an order that leaves x and above, followed by the move of x and y
@@ -92,7 +92,7 @@ module _ (g : Moves) where
             by : Dec (z ≡ x) → factor_at g (moved a) z ≡ factor_at g (moved b) z
             by (yes e) =
                 let h : x ≤ 16 = omega (arith, pair) in
-                rw e (factor_at (moved a) x (moved_still a la) x h (omega arith) ∙ moved_at a la ∙ sym (moved_at b lb) ∙ sym (factor_at (moved b) x (moved_still b lb) x h (omega arith)))
+                rw e (factor_placed (moved a) x (moved_still a la) x h (omega arith) ∙ moved_at a la ∙ sym (moved_at b lb) ∙ sym (factor_placed (moved b) x (moved_still b lb) x h (omega arith)))
             by (no e) = factor_above (moved a) x (moved_still a la) z (omega arith) ∙ sym (factor_above (moved b) x (moved_still b lb) z (omega arith))
 
         -- they come in the same order as before the move

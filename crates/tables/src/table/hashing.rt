@@ -1,6 +1,6 @@
 // The hash of a node's four values.
 ghost use Rattle.std.specs.Prelude.{◌≡◌, ◌<◌};
-ghost use Rattle.tables.specs.Hashing.{stirred, bucket as bucketOf};
+ghost use Rattle.tables.specs.Hashing.{stirred, bucket as bucket_of};
 
 use super::BUCKETS;
 
@@ -19,7 +19,7 @@ fn stir(hash: u64, value: u64) -> u64
 
 // The bucket that four values fall into.
 pub fn bucket(x: u8, y: u8, lo: u32, hi: u32) -> usize
-    ensures is { result ≡ bucketOf x y lo hi }
+    ensures is { result ≡ bucket_of x y lo hi }
     ensures below { result < 4096 }
 {
     let pair = (x as u64 * 256 + y as u64) * ABOVE;

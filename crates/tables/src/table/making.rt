@@ -1,7 +1,7 @@
 // The rule `node`: a node is found or made.
 ghost use Rattle.std.specs.Prelude.{◌≡◌, ℕ, suc, ◌<◌, ◌≤◌, [], ◌∷◌, ◌++◌, length};
 ghost use Rattle.diagrams.specs.Table.{Sound};
-ghost use Rattle.diagrams.specs.Rules.{Asks, node as nodeRule};
+ghost use Rattle.diagrams.specs.Rules.{Asks, node as node_rule};
 ghost use Rattle.tables.specs.Rows.{rows, Makes};
 
 use super::Table;
@@ -31,7 +31,7 @@ impl Table {
     pub fn node(&mut self, capacity: usize, x: u8, y: u8, lo: u32, hi: u32) -> Result<u32, Refusal>
         requires capacity { capacity ≤ 2046 }
         requires asks { Asks (rows self.old) x y lo hi }
-        ensures { (n : ℕ) → Makes (nodeRule capacity (rows self.old) x y lo hi n) (rows self.new) n result }
+        ensures { (n : ℕ) → Makes (node_rule capacity (rows self.old) x y lo hi n) (rows self.new) n result }
     {
         if hi == 0 {
             return Ok(lo);
