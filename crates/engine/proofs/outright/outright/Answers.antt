@@ -10,6 +10,6 @@ pub returns-in-Carry : goal.returns-in-Carry
 returns-in-Carry c =
     let a = c.in-Carry.a in
     let h = c.in-Carry.h in
-    c.first-of-in-Carry.ensures
-    ∙ ap (λ (t : Bool). cond (eqb a 0) (some 0) (cond t (some a) nothing)) (decided c.eq.result h c.standing.result c.eq.ensures ∙ ap (same h) c.standing.ensures)
+    c.first_of-in-Carry.ensures
+    ∙ ap (λ (t : Bool). cond (eqb a 0) (some 0) (cond t (some a) nothing)) (decided c.eq.result h c.standing.result c.eq.ensures.order ∙ ap (same h) c.standing.ensures)
     ∙ sym (ap outright c.in-Carry.is)

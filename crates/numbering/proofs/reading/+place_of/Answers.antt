@@ -25,13 +25,13 @@ returns-then-number-eq0 g t c =
 pub returns-then-eq : goal.returns-then-eq
 returns-then-eq g t c =
     let q = place-standing g.G.Chain.table g.met.G.Chain.laws (rows c.args.table.now) (sound_of c.args.table.now) c.args.number c.requires c.args.order c.if-number-eq1.true
-    (c.eq.ensures.0 c.if-eq.true ∙ c.standing.ensures) in
+    (c.eq.ensures.order.0 c.if-eq.true ∙ c.standing.ensures) in
     record { is = q.0; placed = q.1 }
 
 pub returns-else-eq : goal.returns-else-eq
 returns-else-eq g t c =
     let q = place_other g.G.Chain.table g.met.G.Chain.laws (rows c.args.table.now) (sound_of c.args.table.now) c.args.number c.requires c.args.order c.if-number-eq1.true
-    (λ e. false≢true (sym c.if-eq.false ∙ c.eq.ensures.1 (e ∙ sym c.standing.ensures))) in
+    (λ e. false≢true (sym c.if-eq.false ∙ c.eq.ensures.order.1 (e ∙ sym c.standing.ensures))) in
     record { is = q.0; placed = q.1 }
 
 pub place_of-requires : goal.place_of-requires

@@ -26,14 +26,14 @@ pub joined-returns-in-err-found : goal.joined-returns-in-err-found
 joined-returns-in-err-found g t c = record {
   kept = c.solve.ensures.kept;
   rule = λ n k. task_refused (moves g) c.args.room.nodes (Blank g) (rows c.args.self.now.table) (Join c.args.a c.args.b) c.solve.new.self.table c.args.entries n k
-      c.in-err-found.field-0.0 c.in-err-found.ensures.rule c.from-residual.result c.from-residual.ensures.1;
+      c.in_err-found.field-0.0 c.in_err-found.ensures.rule c.from_residual.result c.from_residual.ensures.1;
 }
 
 pub joined-returns : goal.joined-returns
 joined-returns g t c = record {
   kept = c.solve.ensures.kept;
   rule = λ n k. task_answered (moves g) c.args.room.nodes (Blank g) (rows c.args.self.now.table) (Join c.args.a c.args.b) c.solve.new.self.table c.args.entries n k
-      c.in-ok-found.found c.in-ok-found.ensures.rule c.saturating-add.ensures;
+      c.in_ok-found.found c.in_ok-found.ensures.rule c.saturating_add.ensures;
 }
 
 pub solve-returns-in-Some : goal.solve-returns-in-Some
@@ -64,9 +64,9 @@ solve-returns-in-err-found g t c =
     record {
       kept = c.work.ensures.kept;
       rule = refused_worked (moves g) (laws g) c.args.room.nodes (Blank g) c.args.self.now.table c.args.task c.requires.valid c.work.new.self.table
-          c.in-err-found.field-0.0 c.in-err-found.ensures.rule c.from-residual.result c.from-residual.ensures.1;
-      told = IfOk-from_err _ _ c.from-residual.ensures.0;
-      once = once_none _ (asked c.args.task rc c.key-triple.ensures c.in-default-ask.ensures);
+          c.in_err-found.field-0.0 c.in_err-found.ensures.rule c.from_residual.result c.from_residual.ensures.1;
+      told = IfOk-from_err _ _ c.from_residual.ensures.0;
+      once = once_none _ (asked c.args.task rc c.key-triple.ensures c.in_default-ask.ensures);
     }
 
 pub solve-returns : goal.solve-returns
@@ -75,14 +75,14 @@ solve-returns g t c =
     let before = g.C.Cache.recalls c.work.new.self.cache in
     let after = g.C.Cache.recalls c.tell.new.self in
     let K = c.work.new.self.table in
-    let j = c.in-ok-found.found in
-    let h = c.in-ok-found.ensures.rule in
+    let j = c.in_ok-found.found in
+    let h = c.in_ok-found.ensures.rule in
     let told = told_of c.args.task before c.key-triple.ensures g.C.Cache.sure after j.number c.tell.ensures in
     record {
       kept = kept_worked (moves g) (laws g) c.args.room.nodes (Blank g) c.args.self.now.table c.args.task c.requires.valid K j h before after g.C.Cache.sure told c.work.ensures.kept;
-      rule = solved_worked (moves g) (laws g) c.args.room.nodes (Blank g) c.args.self.now.table c.args.task c.requires.valid K j h c.saturating-add.ensures;
+      rule = solved_worked (moves g) (laws g) c.args.room.nodes (Blank g) c.args.self.now.table c.args.task c.requires.valid K j h c.saturating_add.ensures;
       told = λ one _. told.surely one;
-      once = once_none _ (asked c.args.task rc c.key-triple.ensures c.in-default-ask.ensures);
+      once = once_none _ (asked c.args.task rc c.key-triple.ensures c.in_default-ask.ensures);
     }
 
 pub work-solve-requires : goal.work-solve-requires
@@ -94,55 +94,55 @@ pub work-returns-in-err-low : goal.work-returns-in-err-low
 work-returns-in-err-low g t c = record {
   kept = c.solve.ensures.kept;
   rule = closed (moves g) (laws g) c.args.room.nodes (Blank g) c.args.self.now.table c.args.task c.plan-plan.result c.requires.valid c.plan-plan.ensures
-      c.solve.new.self.table c.in-err-low.field-0.0 c.in-err-low.ensures.rule c.from-residual.result c.from-residual.ensures.1;
+      c.solve.new.self.table c.in_err-low.field-0.0 c.in_err-low.ensures.rule c.from_residual.result c.from_residual.ensures.1;
 }
 
 pub work-returns-in-Pass : goal.work-returns-in-Pass
 work-returns-in-Pass g t c =
     let a = opened (moves g) (laws g) c.args.room.nodes (Blank g) c.args.self.now.table c.args.task c.plan-plan.result c.requires.valid c.plan-plan.ensures
-    c.solve.new.self.table c.in-ok-low.low c.in-ok-low.ensures.rule c.in-Pass.is
+    c.solve.new.self.table c.in_ok-low.low c.in_ok-low.ensures.rule c.in-Pass.is
     in
     record { kept = c.solve.ensures.kept; rule = ended a }
 
 pub work-made-requires : goal.work-made-requires
 work-made-requires g t c =
     let a = opened (moves g) (laws g) c.args.room.nodes (Blank g) c.args.self.now.table c.args.task c.plan-plan.result c.requires.valid c.plan-plan.ensures
-    c.solve.new.self.table c.in-ok-low.low c.in-ok-low.ensures.rule c.in-Over.is
+    c.solve.new.self.table c.in_ok-low.low c.in_ok-low.ensures.rule c.in-Over.is
     in
     record { asks = a.meets.0; kept = c.solve.ensures.kept }
 
 pub work-returns-in-Over : goal.work-returns-in-Over
 work-returns-in-Over g t c =
     let a = opened (moves g) (laws g) c.args.room.nodes (Blank g) c.args.self.now.table c.args.task c.plan-plan.result c.requires.valid c.plan-plan.ensures
-    c.solve.new.self.table c.in-ok-low.low c.in-ok-low.ensures.rule c.in-Over.is
+    c.solve.new.self.table c.in_ok-low.low c.in_ok-low.ensures.rule c.in-Over.is
     in
     record { kept = c.made.ensures.kept; rule = handed a c.made.new.self.table _ c.made.ensures.rule }
 
 pub work-made-requires-in-Lift : goal.work-made-requires-in-Lift
 work-made-requires-in-Lift g t c =
     let a = opened (moves g) (laws g) c.args.room.nodes (Blank g) c.args.self.now.table c.args.task c.plan-plan.result c.requires.valid c.plan-plan.ensures
-    c.solve.new.self.table c.in-ok-low.low c.in-ok-low.ensures.rule c.in-Lift.is
+    c.solve.new.self.table c.in_ok-low.low c.in_ok-low.ensures.rule c.in-Lift.is
     in
     record { asks = a.meets.0; kept = c.solve.ensures.kept }
 
 pub work-returns-in-Lift : goal.work-returns-in-Lift
 work-returns-in-Lift g t c =
     let a = opened (moves g) (laws g) c.args.room.nodes (Blank g) c.args.self.now.table c.args.task c.plan-plan.result c.requires.valid c.plan-plan.ensures
-    c.solve.new.self.table c.in-ok-low.low c.in-ok-low.ensures.rule c.in-Lift.is
+    c.solve.new.self.table c.in_ok-low.low c.in_ok-low.ensures.rule c.in-Lift.is
     in
     record { kept = c.made-in-Lift.ensures.kept; rule = handed a c.made-in-Lift.new.self.table _ c.made-in-Lift.ensures.rule }
 
 pub work-solve-requires-in-Then : goal.work-solve-requires-in-Then
 work-solve-requires-in-Then g t c κs within =
     let a = opened (moves g) (laws g) c.args.room.nodes (Blank g) c.args.self.now.table c.args.task c.plan-plan.result c.requires.valid c.plan-plan.ensures
-    c.solve.new.self.table c.in-ok-low.low c.in-ok-low.ensures.rule c.in-Then.is
+    c.solve.new.self.table c.in_ok-low.low c.in_ok-low.ensures.rule c.in-Then.is
     in
     (omega (arith, a.meets.1), (within.0, (within.1, (a.meets.0, c.solve.ensures.kept))))
 
 pub work-returns-in-err-high : goal.work-returns-in-err-high
 work-returns-in-err-high g t c =
     let a = opened (moves g) (laws g) c.args.room.nodes (Blank g) c.args.self.now.table c.args.task c.plan-plan.result c.requires.valid c.plan-plan.ensures
-    c.solve.new.self.table c.in-ok-low.low c.in-ok-low.ensures.rule c.in-Then.is
+    c.solve.new.self.table c.in_ok-low.low c.in_ok-low.ensures.rule c.in-Then.is
     in
     record {
       kept = c.solve-in-Then.ensures.kept;
@@ -152,60 +152,60 @@ work-returns-in-err-high g t c =
 pub work-made-requires-in-Both : goal.work-made-requires-in-Both
 work-made-requires-in-Both g t c =
     let a = opened (moves g) (laws g) c.args.room.nodes (Blank g) c.args.self.now.table c.args.task c.plan-plan.result c.requires.valid c.plan-plan.ensures
-    c.solve.new.self.table c.in-ok-low.low c.in-ok-low.ensures.rule c.in-Then.is
+    c.solve.new.self.table c.in_ok-low.low c.in_ok-low.ensures.rule c.in-Then.is
     in
-    let b = second c.in-Both.is c.in-ok-low.low.number a c.solve-in-Then.new.self.table c.in-ok-high.high c.in-ok-high.ensures.rule
-    c.saturating-add-entries.ensures
+    let b = second c.in-Both.is c.in_ok-low.low.number a c.solve-in-Then.new.self.table c.in_ok-high-in-Then.high c.in_ok-high-in-Then.ensures.rule
+    c.saturating_add-entries.ensures
     in
     record { asks = b.meets.0; kept = c.solve-in-Then.ensures.kept }
 
 pub work-returns-in-Both : goal.work-returns-in-Both
 work-returns-in-Both g t c =
     let a = opened (moves g) (laws g) c.args.room.nodes (Blank g) c.args.self.now.table c.args.task c.plan-plan.result c.requires.valid c.plan-plan.ensures
-    c.solve.new.self.table c.in-ok-low.low c.in-ok-low.ensures.rule c.in-Then.is
+    c.solve.new.self.table c.in_ok-low.low c.in_ok-low.ensures.rule c.in-Then.is
     in
-    let b = second c.in-Both.is c.in-ok-low.low.number a c.solve-in-Then.new.self.table c.in-ok-high.high c.in-ok-high.ensures.rule
-    c.saturating-add-entries.ensures
+    let b = second c.in-Both.is c.in_ok-low.low.number a c.solve-in-Then.new.self.table c.in_ok-high-in-Then.high c.in_ok-high-in-Then.ensures.rule
+    c.saturating_add-entries.ensures
     in
     record { kept = c.made-in-Both.ensures.kept; rule = handed b c.made-in-Both.new.self.table _ c.made-in-Both.ensures.rule }
 
 pub work-joined-requires : goal.work-joined-requires
 work-joined-requires g t c κs within =
     let a = opened (moves g) (laws g) c.args.room.nodes (Blank g) c.args.self.now.table c.args.task c.plan-plan.result c.requires.valid c.plan-plan.ensures
-    c.solve.new.self.table c.in-ok-low.low c.in-ok-low.ensures.rule c.in-Then.is
+    c.solve.new.self.table c.in_ok-low.low c.in_ok-low.ensures.rule c.in-Then.is
     in
-    let b = second c.in-Join.is c.in-ok-low.low.number a c.solve-in-Then.new.self.table c.in-ok-high.high c.in-ok-high.ensures.rule
-    c.saturating-add-entries.ensures
+    let b = second c.in-Join.is c.in_ok-low.low.number a c.solve-in-Then.new.self.table c.in_ok-high-in-Then.high c.in_ok-high-in-Then.ensures.rule
+    c.saturating_add-entries.ensures
     in
     (omega (arith, b.meets.1), (within.0, (within.1, (b.meets.0, c.solve-in-Then.ensures.kept))))
 
 pub work-returns-in-Join : goal.work-returns-in-Join
 work-returns-in-Join g t c =
     let a = opened (moves g) (laws g) c.args.room.nodes (Blank g) c.args.self.now.table c.args.task c.plan-plan.result c.requires.valid c.plan-plan.ensures
-    c.solve.new.self.table c.in-ok-low.low c.in-ok-low.ensures.rule c.in-Then.is
+    c.solve.new.self.table c.in_ok-low.low c.in_ok-low.ensures.rule c.in-Then.is
     in
-    let b = second c.in-Join.is c.in-ok-low.low.number a c.solve-in-Then.new.self.table c.in-ok-high.high c.in-ok-high.ensures.rule
-    c.saturating-add-entries.ensures
+    let b = second c.in-Join.is c.in_ok-low.low.number a c.solve-in-Then.new.self.table c.in_ok-high-in-Then.high c.in_ok-high-in-Then.ensures.rule
+    c.saturating_add-entries.ensures
     in
     record { kept = c.joined.ensures.kept; rule = handed b c.joined.new.self.table _ c.joined.ensures.rule }
 
 pub work-add-requires : goal.work-add-requires
 work-add-requires g t c =
     let a = opened (moves g) (laws g) c.args.room.nodes (Blank g) c.args.self.now.table c.args.task c.plan-plan.result c.requires.valid c.plan-plan.ensures
-    c.solve.new.self.table c.in-ok-low.low c.in-ok-low.ensures.rule c.in-Then.is
+    c.solve.new.self.table c.in_ok-low.low c.in_ok-low.ensures.rule c.in-Then.is
     in
-    let b = second c.in-Raise.is c.in-ok-low.low.number a c.solve-in-Then.new.self.table c.in-ok-high.high c.in-ok-high.ensures.rule
-    c.saturating-add-entries.ensures
+    let b = second c.in-Raise.is c.in_ok-low.low.number a c.solve-in-Then.new.self.table c.in_ok-high-in-Then.high c.in_ok-high-in-Then.ensures.rule
+    c.saturating_add-entries.ensures
     in
     record { asks = b.meets.0; kept = c.solve-in-Then.ensures.kept }
 
 pub work-returns-in-err-top : goal.work-returns-in-err-top
 work-returns-in-err-top g t c =
     let a = opened (moves g) (laws g) c.args.room.nodes (Blank g) c.args.self.now.table c.args.task c.plan-plan.result c.requires.valid c.plan-plan.ensures
-    c.solve.new.self.table c.in-ok-low.low c.in-ok-low.ensures.rule c.in-Then.is
+    c.solve.new.self.table c.in_ok-low.low c.in_ok-low.ensures.rule c.in-Then.is
     in
-    let b = second c.in-Raise.is c.in-ok-low.low.number a c.solve-in-Then.new.self.table c.in-ok-high.high c.in-ok-high.ensures.rule
-    c.saturating-add-entries.ensures
+    let b = second c.in-Raise.is c.in_ok-low.low.number a c.solve-in-Then.new.self.table c.in-ok-high.high c.in-ok-high.ensures.rule
+    c.saturating_add-entries.ensures
     in
     record {
       kept = c.add.ensures.kept;
@@ -215,10 +215,10 @@ work-returns-in-err-top g t c =
 pub work-joined-requires-in-Raise : goal.work-joined-requires-in-Raise
 work-joined-requires-in-Raise g t c κs within =
     let a = opened (moves g) (laws g) c.args.room.nodes (Blank g) c.args.self.now.table c.args.task c.plan-plan.result c.requires.valid c.plan-plan.ensures
-    c.solve.new.self.table c.in-ok-low.low c.in-ok-low.ensures.rule c.in-Then.is
+    c.solve.new.self.table c.in_ok-low.low c.in_ok-low.ensures.rule c.in-Then.is
     in
-    let b = second c.in-Raise.is c.in-ok-low.low.number a c.solve-in-Then.new.self.table c.in-ok-high.high c.in-ok-high.ensures.rule
-    c.saturating-add-entries.ensures
+    let b = second c.in-Raise.is c.in_ok-low.low.number a c.solve-in-Then.new.self.table c.in_ok-high-in-Then.high c.in_ok-high-in-Then.ensures.rule
+    c.saturating_add-entries.ensures
     in
     let d = added b c.add.new.self.table c.in-ok-top.top c.in-ok-top.ensures.rule in
     (omega (arith, d.meets.1), (within.0, (within.1, (d.meets.0, c.add.ensures.kept))))
@@ -226,10 +226,10 @@ work-joined-requires-in-Raise g t c κs within =
 pub work-returns-in-ok-top : goal.work-returns-in-ok-top
 work-returns-in-ok-top g t c =
     let a = opened (moves g) (laws g) c.args.room.nodes (Blank g) c.args.self.now.table c.args.task c.plan-plan.result c.requires.valid c.plan-plan.ensures
-    c.solve.new.self.table c.in-ok-low.low c.in-ok-low.ensures.rule c.in-Then.is
+    c.solve.new.self.table c.in_ok-low.low c.in_ok-low.ensures.rule c.in-Then.is
     in
-    let b = second c.in-Raise.is c.in-ok-low.low.number a c.solve-in-Then.new.self.table c.in-ok-high.high c.in-ok-high.ensures.rule
-    c.saturating-add-entries.ensures
+    let b = second c.in-Raise.is c.in_ok-low.low.number a c.solve-in-Then.new.self.table c.in-ok-high.high c.in-ok-high.ensures.rule
+    c.saturating_add-entries.ensures
     in
     let d = added b c.add.new.self.table c.in-ok-top.top c.in-ok-top.ensures.rule in
     record { kept = c.joined-in-Raise.ensures.kept; rule = handed d c.joined-in-Raise.new.self.table _ c.joined-in-Raise.ensures.rule }
@@ -237,20 +237,20 @@ work-returns-in-ok-top g t c =
 pub work-solve-requires-in-Move : goal.work-solve-requires-in-Move
 work-solve-requires-in-Move g t c κs within =
     let a = opened (moves g) (laws g) c.args.room.nodes (Blank g) c.args.self.now.table c.args.task c.plan-plan.result c.requires.valid c.plan-plan.ensures
-    c.solve.new.self.table c.in-ok-low.low c.in-ok-low.ensures.rule c.in-Then.is
+    c.solve.new.self.table c.in_ok-low.low c.in_ok-low.ensures.rule c.in-Then.is
     in
-    let b = second c.in-Move.is c.in-ok-low.low.number a c.solve-in-Then.new.self.table c.in-ok-high.high c.in-ok-high.ensures.rule
-    c.saturating-add-entries.ensures
+    let b = second c.in-Move.is c.in_ok-low.low.number a c.solve-in-Then.new.self.table c.in-ok-high.high c.in-ok-high.ensures.rule
+    c.saturating_add-entries.ensures
     in
     (omega (arith, b.meets.1), (within.0, (within.1, (b.meets.0, c.solve-in-Then.ensures.kept))))
 
 pub work-returns-in-err-moved : goal.work-returns-in-err-moved
 work-returns-in-err-moved g t c =
     let a = opened (moves g) (laws g) c.args.room.nodes (Blank g) c.args.self.now.table c.args.task c.plan-plan.result c.requires.valid c.plan-plan.ensures
-    c.solve.new.self.table c.in-ok-low.low c.in-ok-low.ensures.rule c.in-Then.is
+    c.solve.new.self.table c.in_ok-low.low c.in_ok-low.ensures.rule c.in-Then.is
     in
-    let b = second c.in-Move.is c.in-ok-low.low.number a c.solve-in-Then.new.self.table c.in-ok-high.high c.in-ok-high.ensures.rule
-    c.saturating-add-entries.ensures
+    let b = second c.in-Move.is c.in_ok-low.low.number a c.solve-in-Then.new.self.table c.in-ok-high.high c.in-ok-high.ensures.rule
+    c.saturating_add-entries.ensures
     in
     record {
       kept = c.solve-in-Move.ensures.kept;
@@ -260,21 +260,21 @@ work-returns-in-err-moved g t c =
 pub work-joined-requires-in-Move : goal.work-joined-requires-in-Move
 work-joined-requires-in-Move g t c κs within =
     let a = opened (moves g) (laws g) c.args.room.nodes (Blank g) c.args.self.now.table c.args.task c.plan-plan.result c.requires.valid c.plan-plan.ensures
-    c.solve.new.self.table c.in-ok-low.low c.in-ok-low.ensures.rule c.in-Then.is
+    c.solve.new.self.table c.in_ok-low.low c.in_ok-low.ensures.rule c.in-Then.is
     in
-    let b = second c.in-Move.is c.in-ok-low.low.number a c.solve-in-Then.new.self.table c.in-ok-high.high c.in-ok-high.ensures.rule
-    c.saturating-add-entries.ensures
+    let b = second c.in-Move.is c.in_ok-low.low.number a c.solve-in-Then.new.self.table c.in-ok-high.high c.in-ok-high.ensures.rule
+    c.saturating_add-entries.ensures
     in
-    let d = entered b c.solve-in-Move.new.self.table c.in-ok-moved.moved c.in-ok-moved.ensures.rule c.saturating-add-entries-in-Move.ensures in
+    let d = entered b c.solve-in-Move.new.self.table c.in-ok-moved.moved c.in-ok-moved.ensures.rule c.saturating_add-entries-in-Move.ensures in
     (omega (arith, d.meets.1), (within.0, (within.1, (d.meets.0, c.solve-in-Move.ensures.kept))))
 
 pub work-returns-in-ok-moved : goal.work-returns-in-ok-moved
 work-returns-in-ok-moved g t c =
     let a = opened (moves g) (laws g) c.args.room.nodes (Blank g) c.args.self.now.table c.args.task c.plan-plan.result c.requires.valid c.plan-plan.ensures
-    c.solve.new.self.table c.in-ok-low.low c.in-ok-low.ensures.rule c.in-Then.is
+    c.solve.new.self.table c.in_ok-low.low c.in_ok-low.ensures.rule c.in-Then.is
     in
-    let b = second c.in-Move.is c.in-ok-low.low.number a c.solve-in-Then.new.self.table c.in-ok-high.high c.in-ok-high.ensures.rule
-    c.saturating-add-entries.ensures
+    let b = second c.in-Move.is c.in_ok-low.low.number a c.solve-in-Then.new.self.table c.in-ok-high.high c.in-ok-high.ensures.rule
+    c.saturating_add-entries.ensures
     in
-    let d = entered b c.solve-in-Move.new.self.table c.in-ok-moved.moved c.in-ok-moved.ensures.rule c.saturating-add-entries-in-Move.ensures in
+    let d = entered b c.solve-in-Move.new.self.table c.in-ok-moved.moved c.in-ok-moved.ensures.rule c.saturating_add-entries-in-Move.ensures in
     record { kept = c.joined-in-Move.ensures.kept; rule = handed d c.joined-in-Move.new.self.table _ c.joined-in-Move.ensures.rule }
