@@ -22,8 +22,8 @@ laws g = g.met.G.Chain.laws
 abbrev Blank : Over → Type 0
 Blank g = Forgets g.row.C.Denot g.C.Cache.recalls
 
-pub joined-returns-in-err-found : goal.joined-returns-in-err-found
-joined-returns-in-err-found g t c = record {
+pub joined-returns-in_err-found : goal.joined-returns-in_err-found
+joined-returns-in_err-found g t c = record {
   kept = c.solve.ensures.kept;
   rule = λ n k. task_refused (moves g) c.args.room.nodes (Blank g) (rows c.args.self.now.table) (Join c.args.a c.args.b) c.solve.new.self.table c.args.entries n k
       c.in_err-found.field-0.0 c.in_err-found.ensures.rule c.from_residual.result c.from_residual.ensures.1;
@@ -58,8 +58,8 @@ solve-returns-in-Some-ask g t c =
       once = once_one _ c.in-Some-ask.number;
     }
 
-pub solve-returns-in-err-found : goal.solve-returns-in-err-found
-solve-returns-in-err-found g t c =
+pub solve-returns-in_err-found : goal.solve-returns-in_err-found
+solve-returns-in_err-found g t c =
     let rc = g.C.Cache.recalls c.args.self.now.cache in
     record {
       kept = c.work.ensures.kept;
@@ -90,8 +90,8 @@ work-solve-requires g t c κs within =
     let o = first_meets (moves g) (laws g) c.args.room.nodes (Blank g) c.args.self.now.table c.args.task c.plan-plan.result c.requires.valid c.plan-plan.ensures in
     (omega (arith, o.1), (within.0, (within.1, (o.0, c.requires.kept))))
 
-pub work-returns-in-err-low : goal.work-returns-in-err-low
-work-returns-in-err-low g t c = record {
+pub work-returns-in_err-low : goal.work-returns-in_err-low
+work-returns-in_err-low g t c = record {
   kept = c.solve.ensures.kept;
   rule = closed (moves g) (laws g) c.args.room.nodes (Blank g) c.args.self.now.table c.args.task c.plan-plan.result c.requires.valid c.plan-plan.ensures
       c.solve.new.self.table c.in_err-low.field-0.0 c.in_err-low.ensures.rule c.from_residual.result c.from_residual.ensures.1;
@@ -139,14 +139,14 @@ work-solve-requires-in-Then g t c κs within =
     in
     (omega (arith, a.meets.1), (within.0, (within.1, (a.meets.0, c.solve.ensures.kept))))
 
-pub work-returns-in-err-high : goal.work-returns-in-err-high
-work-returns-in-err-high g t c =
+pub work-returns-in_err-high-in-Then : goal.work-returns-in_err-high-in-Then
+work-returns-in_err-high-in-Then g t c =
     let a = opened (moves g) (laws g) c.args.room.nodes (Blank g) c.args.self.now.table c.args.task c.plan-plan.result c.requires.valid c.plan-plan.ensures
     c.solve.new.self.table c.in_ok-low.low c.in_ok-low.ensures.rule c.in-Then.is
     in
     record {
       kept = c.solve-in-Then.ensures.kept;
-      rule = refused a c.solve-in-Then.new.self.table c.in-err-high.field-0.0 c.in-err-high.ensures.rule c.from-residual-in-err-high.result c.from-residual-in-err-high.ensures.1;
+      rule = refused a c.solve-in-Then.new.self.table c.in_err-high-in-Then.field-0.0 c.in_err-high-in-Then.ensures.rule c.from_residual-in_err-high-in-Then.result c.from_residual-in_err-high-in-Then.ensures.1;
     }
 
 pub work-made-requires-in-Both : goal.work-made-requires-in-Both
@@ -199,17 +199,17 @@ work-add-requires g t c =
     in
     record { asks = b.meets.0; kept = c.solve-in-Then.ensures.kept }
 
-pub work-returns-in-err-top : goal.work-returns-in-err-top
-work-returns-in-err-top g t c =
+pub work-returns-in_err-top-in-Raise : goal.work-returns-in_err-top-in-Raise
+work-returns-in_err-top-in-Raise g t c =
     let a = opened (moves g) (laws g) c.args.room.nodes (Blank g) c.args.self.now.table c.args.task c.plan-plan.result c.requires.valid c.plan-plan.ensures
     c.solve.new.self.table c.in_ok-low.low c.in_ok-low.ensures.rule c.in-Then.is
     in
-    let b = second c.in-Raise.is c.in_ok-low.low.number a c.solve-in-Then.new.self.table c.in-ok-high.high c.in-ok-high.ensures.rule
+    let b = second c.in-Raise.is c.in_ok-low.low.number a c.solve-in-Then.new.self.table c.in_ok-high-in-Then.high c.in_ok-high-in-Then.ensures.rule
     c.saturating_add-entries.ensures
     in
     record {
       kept = c.add.ensures.kept;
-      rule = declined b c.add.new.self.table c.in-err-top.field-0.0 c.in-err-top.ensures.rule c.from-residual-in-err-top.result c.from-residual-in-err-top.ensures.1;
+      rule = declined b c.add.new.self.table c.in_err-top-in-Raise.field-0.0 c.in_err-top-in-Raise.ensures.rule c.from_residual-in_err-top-in-Raise.result c.from_residual-in_err-top-in-Raise.ensures.1;
     }
 
 pub work-joined-requires-in-Raise : goal.work-joined-requires-in-Raise
@@ -220,18 +220,18 @@ work-joined-requires-in-Raise g t c κs within =
     let b = second c.in-Raise.is c.in_ok-low.low.number a c.solve-in-Then.new.self.table c.in_ok-high-in-Then.high c.in_ok-high-in-Then.ensures.rule
     c.saturating_add-entries.ensures
     in
-    let d = added b c.add.new.self.table c.in-ok-top.top c.in-ok-top.ensures.rule in
+    let d = added b c.add.new.self.table c.in_ok-top-in-Raise.top c.in_ok-top-in-Raise.ensures.rule in
     (omega (arith, d.meets.1), (within.0, (within.1, (d.meets.0, c.add.ensures.kept))))
 
-pub work-returns-in-ok-top : goal.work-returns-in-ok-top
-work-returns-in-ok-top g t c =
+pub work-returns-in_ok-top-in-Raise : goal.work-returns-in_ok-top-in-Raise
+work-returns-in_ok-top-in-Raise g t c =
     let a = opened (moves g) (laws g) c.args.room.nodes (Blank g) c.args.self.now.table c.args.task c.plan-plan.result c.requires.valid c.plan-plan.ensures
     c.solve.new.self.table c.in_ok-low.low c.in_ok-low.ensures.rule c.in-Then.is
     in
-    let b = second c.in-Raise.is c.in_ok-low.low.number a c.solve-in-Then.new.self.table c.in-ok-high.high c.in-ok-high.ensures.rule
+    let b = second c.in-Raise.is c.in_ok-low.low.number a c.solve-in-Then.new.self.table c.in_ok-high-in-Then.high c.in_ok-high-in-Then.ensures.rule
     c.saturating_add-entries.ensures
     in
-    let d = added b c.add.new.self.table c.in-ok-top.top c.in-ok-top.ensures.rule in
+    let d = added b c.add.new.self.table c.in_ok-top-in-Raise.top c.in_ok-top-in-Raise.ensures.rule in
     record { kept = c.joined-in-Raise.ensures.kept; rule = handed d c.joined-in-Raise.new.self.table _ c.joined-in-Raise.ensures.rule }
 
 pub work-solve-requires-in-Move : goal.work-solve-requires-in-Move
@@ -239,22 +239,22 @@ work-solve-requires-in-Move g t c κs within =
     let a = opened (moves g) (laws g) c.args.room.nodes (Blank g) c.args.self.now.table c.args.task c.plan-plan.result c.requires.valid c.plan-plan.ensures
     c.solve.new.self.table c.in_ok-low.low c.in_ok-low.ensures.rule c.in-Then.is
     in
-    let b = second c.in-Move.is c.in_ok-low.low.number a c.solve-in-Then.new.self.table c.in-ok-high.high c.in-ok-high.ensures.rule
+    let b = second c.in-Move.is c.in_ok-low.low.number a c.solve-in-Then.new.self.table c.in_ok-high-in-Then.high c.in_ok-high-in-Then.ensures.rule
     c.saturating_add-entries.ensures
     in
     (omega (arith, b.meets.1), (within.0, (within.1, (b.meets.0, c.solve-in-Then.ensures.kept))))
 
-pub work-returns-in-err-moved : goal.work-returns-in-err-moved
-work-returns-in-err-moved g t c =
+pub work-returns-in_err-moved-in-Move : goal.work-returns-in_err-moved-in-Move
+work-returns-in_err-moved-in-Move g t c =
     let a = opened (moves g) (laws g) c.args.room.nodes (Blank g) c.args.self.now.table c.args.task c.plan-plan.result c.requires.valid c.plan-plan.ensures
     c.solve.new.self.table c.in_ok-low.low c.in_ok-low.ensures.rule c.in-Then.is
     in
-    let b = second c.in-Move.is c.in_ok-low.low.number a c.solve-in-Then.new.self.table c.in-ok-high.high c.in-ok-high.ensures.rule
+    let b = second c.in-Move.is c.in_ok-low.low.number a c.solve-in-Then.new.self.table c.in_ok-high-in-Then.high c.in_ok-high-in-Then.ensures.rule
     c.saturating_add-entries.ensures
     in
     record {
       kept = c.solve-in-Move.ensures.kept;
-      rule = refused b c.solve-in-Move.new.self.table c.in-err-moved.field-0.0 c.in-err-moved.ensures.rule c.from-residual-in-err-moved.result c.from-residual-in-err-moved.ensures.1;
+      rule = refused b c.solve-in-Move.new.self.table c.in_err-moved-in-Move.field-0.0 c.in_err-moved-in-Move.ensures.rule c.from_residual-in_err-moved-in-Move.result c.from_residual-in_err-moved-in-Move.ensures.1;
     }
 
 pub work-joined-requires-in-Move : goal.work-joined-requires-in-Move
@@ -262,19 +262,19 @@ work-joined-requires-in-Move g t c κs within =
     let a = opened (moves g) (laws g) c.args.room.nodes (Blank g) c.args.self.now.table c.args.task c.plan-plan.result c.requires.valid c.plan-plan.ensures
     c.solve.new.self.table c.in_ok-low.low c.in_ok-low.ensures.rule c.in-Then.is
     in
-    let b = second c.in-Move.is c.in_ok-low.low.number a c.solve-in-Then.new.self.table c.in-ok-high.high c.in-ok-high.ensures.rule
+    let b = second c.in-Move.is c.in_ok-low.low.number a c.solve-in-Then.new.self.table c.in_ok-high-in-Then.high c.in_ok-high-in-Then.ensures.rule
     c.saturating_add-entries.ensures
     in
-    let d = entered b c.solve-in-Move.new.self.table c.in-ok-moved.moved c.in-ok-moved.ensures.rule c.saturating_add-entries-in-Move.ensures in
+    let d = entered b c.solve-in-Move.new.self.table c.in_ok-moved-in-Move.moved c.in_ok-moved-in-Move.ensures.rule c.saturating_add-entries-in-Move.ensures in
     (omega (arith, d.meets.1), (within.0, (within.1, (d.meets.0, c.solve-in-Move.ensures.kept))))
 
-pub work-returns-in-ok-moved : goal.work-returns-in-ok-moved
-work-returns-in-ok-moved g t c =
+pub work-returns-in_ok-moved-in-Move : goal.work-returns-in_ok-moved-in-Move
+work-returns-in_ok-moved-in-Move g t c =
     let a = opened (moves g) (laws g) c.args.room.nodes (Blank g) c.args.self.now.table c.args.task c.plan-plan.result c.requires.valid c.plan-plan.ensures
     c.solve.new.self.table c.in_ok-low.low c.in_ok-low.ensures.rule c.in-Then.is
     in
-    let b = second c.in-Move.is c.in_ok-low.low.number a c.solve-in-Then.new.self.table c.in-ok-high.high c.in-ok-high.ensures.rule
+    let b = second c.in-Move.is c.in_ok-low.low.number a c.solve-in-Then.new.self.table c.in_ok-high-in-Then.high c.in_ok-high-in-Then.ensures.rule
     c.saturating_add-entries.ensures
     in
-    let d = entered b c.solve-in-Move.new.self.table c.in-ok-moved.moved c.in-ok-moved.ensures.rule c.saturating_add-entries-in-Move.ensures in
+    let d = entered b c.solve-in-Move.new.self.table c.in_ok-moved-in-Move.moved c.in_ok-moved-in-Move.ensures.rule c.saturating_add-entries-in-Move.ensures in
     record { kept = c.joined-in-Move.ensures.kept; rule = handed d c.joined-in-Move.new.self.table _ c.joined-in-Move.ensures.rule }
