@@ -27,8 +27,8 @@ pub struct Growth {
 
 // The standing order and the exchanges of neighbouring places.
 fn neighbours<G: Chain, C: Cache>(store: &mut Store<G, C>, pieces: u8) -> Result<Handle, Refusal>
-    requires { Kept table recalls store.old }
-    ensures { Kept table recalls store.new }
+    requires { Kept G.table C.recalls store.old }
+    ensures { Kept G.table C.recalls store.new }
 {
     let mut set = store.standing_set();
     for i in 1..pieces {
@@ -44,8 +44,8 @@ fn alone<G: Chain, C: Cache>(
     store: &mut Store<G, C>,
     set: Handle,
 ) -> Result<(Handle, usize), Refusal>
-    requires { Kept table recalls store.old }
-    ensures { Kept table recalls store.new }
+    requires { Kept G.table C.recalls store.old }
+    ensures { Kept G.table C.recalls store.new }
 {
     let hold = store.hold(set, 0)?;
     let left = store.sweep();
@@ -57,8 +57,8 @@ fn alone<G: Chain, C: Cache>(
 
 // How many different sets the nodes have without the standing order.
 fn counted_once<G: Chain, C: Cache>(store: &mut Store<G, C>, nodes: usize) -> Result<u64, Refusal>
-    requires { Kept table recalls store.old }
-    ensures { Kept table recalls store.new }
+    requires { Kept G.table C.recalls store.old }
+    ensures { Kept G.table C.recalls store.new }
 {
     let mut room = [0u64; 2046];
     let mut seen = Filled::new(&mut room);
@@ -99,7 +99,7 @@ fn larger(a: Size, b: Size) -> Size {
 
 // Each set followed by the exchanges, until nothing new comes.
 pub fn grown<G: Chain, C: Cache>(store: &mut Store<G, C>, pieces: u8) -> Result<Growth, Refusal>
-    requires { Kept table recalls store.old }
+    requires { Kept G.table C.recalls store.old }
 {
     let mut set = store.standing_set();
     let mut last = Size { nodes: 0, once: 0 };
