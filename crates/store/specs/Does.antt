@@ -10,6 +10,8 @@ use Rattle.diagrams.specs.Outright.{outright, kind_of, right_of}
 use Rattle.diagrams.specs.Work.{Sought}
 use Rattle.engine.specs.Kept as engine
 use Rattle.engine.specs.Answers.{Forgets}
+use Rattle.orders.specs.declared.chain.Chain as chain
+use Rattle.caches.specs.declared.Cache as cache
 use Rattle.store.specs.declared.plan.Plan.{Plan}
 use Rattle.store.specs.declared.shapes.Found.{Found}
 use Rattle.store.specs.declared.shapes.Handle.{Handle}
@@ -24,11 +26,11 @@ use Rattle.store.specs.Steps.{Call, Reply, found, declined, held, released, retu
 
 -- What holds of a store between calls: every pair that its cache remembers is right. `begin` promises it, and every call
 -- asks for it and promises it again.
-abbrev pub Kept : {G C : Type 0} → Moves → (C → Recalls) → Store G C → Type 0
+abbrev pub Kept : {G C : Type 0} {cg : chain.Ghosts G} {cc : cache.Ghosts C} → Moves → (C → Recalls) → Store G C cg cc → Type 0
 Kept g recalls s = engine.Kept g (room_of (view s)) (view s).nodes (recalls s.engine.cache)
 
 -- A call turns the store s into t, with this reply and these entries.
-pub record Does {G C : Type 0} (g : Moves) (recalls : C → Recalls) (s : Store G C) (call : Call) (t : Store G C) (reply : Reply) (entries : ℕ) : Type 0 where
+pub record Does {G C : Type 0} {cg : chain.Ghosts G} {cc : cache.Ghosts C} (g : Moves) (recalls : C → Recalls) (s : Store G C cg cc) (call : Call) (t : Store G C cg cc) (reply : Reply) (entries : ℕ) : Type 0 where
   -- what the store is afterwards and what it replies are as `step` says
   pub after : ◌≡◌ {A = View × Reply} (view t, reply) (step g (view s) call)
   pub kept : Kept g recalls t
@@ -76,7 +78,7 @@ abbrev pub recalled : Recalls → SetCall → Option ℕ
 recalled rc call = rc (kind_of (task_of call)) (first_of (task_of call)) (right_of (task_of call))
 
 -- a call that answered f: what holds of f
-pub record Answers {G C : Type 0} (g : Moves) (recalls : C → Recalls) (sure : ℕ) (s : Store G C) (call : SetCall) (t : Store G C) (f : Found) : Type 0 where
+pub record Answers {G C : Type 0} {cg : chain.Ghosts G} {cc : cache.Ghosts C} (g : Moves) (recalls : C → Recalls) (sure : ℕ) (s : Store G C cg cc) (call : SetCall) (t : Store G C cg cc) (f : Found) : Type 0 where
   -- its set has just the orders that the call is to find
   pub set : (o : Order) → In g (view t).nodes f.handle.number o ↔ Wanted g (view s) call o
   pub least : 1 ≤ f.entries
@@ -86,7 +88,7 @@ pub record Answers {G C : Type 0} (g : Moves) (recalls : C → Recalls) (sure : 
   pub told : sure ≡ 1 → outright (task_of call) ≡ None → recalled (recalls t.engine.cache) call ≡ Some f.handle.number
 
 -- What the contract of a call that works out a set says.
-pub record WorksOut {G C : Type 0} (g : Moves) (recalls : C → Recalls) (sure : ℕ) (s : Store G C) (call : SetCall) (t : Store G C) (r : Result Found Refusal) : Type 0 where
+pub record WorksOut {G C : Type 0} {cg : chain.Ghosts G} {cc : cache.Ghosts C} (g : Moves) (recalls : C → Recalls) (sure : ℕ) (s : Store G C cg cc) (call : SetCall) (t : Store G C cg cc) (r : Result Found Refusal) : Type 0 where
   pub does : Does g recalls s (sets call) t (found_reply r) (found_entries r)
   pub answers : IfOk r (Answers g recalls sure s call t)
 
@@ -94,7 +96,7 @@ pub record WorksOut {G C : Type 0} (g : Moves) (recalls : C → Recalls) (sure :
 abbrev pub fresh : Plan → View
 fresh p = record { plan = p; season = p.season; nodes = []; pegs = replicate 64 None }
 
-pub record Begun {G C : Type 0} (g : Moves) (recalls : C → Recalls) (p : Plan) (s : Store G C) : Type 0 where
+pub record Begun {G C : Type 0} {cg : chain.Ghosts G} {cc : cache.Ghosts C} (g : Moves) (recalls : C → Recalls) (p : Plan) (s : Store G C cg cc) : Type 0 where
   pub view_is : view s ≡ fresh p
   pub kept : Kept g recalls s
   -- the cache was emptied

@@ -2,6 +2,8 @@
 use Rattle.std.specs.Prelude.{ℕ, List, Option}
 use Rattle.diagrams.specs.declared.Node.{Node}
 use Rattle.tables.specs.Rows.{rows}
+use Rattle.orders.specs.declared.chain.Chain as chain
+use Rattle.caches.specs.declared.Cache as cache
 use Rattle.store.specs.declared.plan.Plan.{Plan}
 use Rattle.store.specs.declared.store.Store.{Store}
 
@@ -16,7 +18,7 @@ pub record View : Type 0 where
   -- what each peg has: nothing, or the number of a set
   pub pegs : Pegs
 
-abbrev pub view : {G C : Type 0} → Store G C → View
+abbrev pub view : {G C : Type 0} {cg : chain.Ghosts G} {cc : cache.Ghosts C} → Store G C cg cc → View
 view s = record { plan = s.plan; season = s.season; nodes = rows s.engine.table; pegs = s.pegs }
 
 -- how many nodes the store may have

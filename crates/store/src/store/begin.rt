@@ -14,7 +14,7 @@ use orders::Chain;
 impl<G: Chain, C: Cache> Store<G, C> {
     // A store with no node, from a tested plan, a chain and a cache. The cache is emptied first.
     pub fn begin(plan: Plan, chain: G, cache: C) -> Store<G, C>
-        ensures { Begun table recalls plan result }
+        ensures { Begun G.table C.recalls plan result }
     {
         Store {
             plan,

@@ -54,8 +54,8 @@ impl<G: Chain, C: Cache> Store<G, C> {
 
     // The node with these four values, found or added.
     pub fn add(&mut self, x: u64, y: u64, lo: u64, hi: u64) -> Result<Handle, Refusal>
-        requires { Kept table recalls self.old }
-        ensures { Does table recalls self.old (adds x y lo hi) self.new (handle_reply result) 0 }
+        requires { Kept G.table C.recalls self.old }
+        ensures { Does G.table C.recalls self.old (adds x y lo hi) self.new (handle_reply result) 0 }
     {
         if !self.keeps_rules(x, y, lo, hi) {
             return Err(Refusal::BadNode);

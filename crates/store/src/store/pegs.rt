@@ -28,8 +28,8 @@ impl<G: Chain, C: Cache> Store<G, C> {
 
     // Puts a set on an empty peg, and gives the hold on it.
     pub fn hold(&mut self, handle: Handle, peg: u64) -> Result<Hold, Refusal>
-        requires { Kept table recalls self.old }
-        ensures does { Does table recalls self.old (holds handle peg) self.new (hold_reply result) 0 }
+        requires { Kept G.table C.recalls self.old }
+        ensures does { Does G.table C.recalls self.old (holds handle peg) self.new (hold_reply result) 0 }
         ensures given { IfOk result (Holds (view self.new)) }
     {
         let number = self.number_of(handle)?;
@@ -65,8 +65,8 @@ impl<G: Chain, C: Cache> Store<G, C> {
 
     // Takes a hold back and empties its peg. A hold that is declined comes back.
     pub fn release(&mut self, hold: Hold) -> Result<(), Returned>
-        requires { Kept table recalls self.old }
-        ensures { Does table recalls self.old (releases hold) self.new (release_reply result) 0 }
+        requires { Kept G.table C.recalls self.old }
+        ensures { Does G.table C.recalls self.old (releases hold) self.new (release_reply result) 0 }
     {
         if let Err(refusal) = self.held_number(hold.mark, hold.peg) {
             return Err(Returned { refusal, hold });
@@ -78,9 +78,9 @@ impl<G: Chain, C: Cache> Store<G, C> {
 
     // Takes back a hold that the store is known to have, which is never declined.
     pub fn give_back(&mut self, hold: Hold)
-        requires kept { Kept table recalls self.old }
+        requires kept { Kept G.table C.recalls self.old }
         requires holds { Holds (view self.old) hold }
-        ensures { Does table recalls self.old (releases hold) self.new released 0 }
+        ensures { Does G.table C.recalls self.old (releases hold) self.new released 0 }
     {
         match self.release(hold) {
             Ok(()) => {}

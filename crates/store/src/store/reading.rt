@@ -36,7 +36,7 @@ impl<G: Chain, C: Cache> Store<G, C> {
     // How many orders a set has.
     pub fn count(&self, handle: Handle) -> Result<u64, Refusal>
         ensures reply { result ≡ answered (handle_asked (view self.now) handle) (count_of (view self.now).nodes handle.number) }
-        ensures means { IfOk result (Many (In table (view self.now).nodes handle.number)) }
+        ensures means { IfOk result (Many (In G.table (view self.now).nodes handle.number)) }
     {
         let number = self.number_of(handle)?;
         Ok(numbering::count(self.engine.table(), number))
@@ -44,8 +44,8 @@ impl<G: Chain, C: Cache> Store<G, C> {
 
     // The order with the number `k` in a set; declined by 12 where `k` is not below the count.
     pub fn order_at(&self, handle: Handle, k: u64) -> Result<Order, Refusal>
-        ensures reply { result ≡ or_past (handle_asked (view self.now) handle) (order_at table (view self.now).nodes handle.number k) }
-        ensures means { IfOk result (Numbered table (view self.now).nodes handle.number k) }
+        ensures reply { result ≡ or_past (handle_asked (view self.now) handle) (order_at G.table (view self.now).nodes handle.number k) }
+        ensures means { IfOk result (Numbered G.table (view self.now).nodes handle.number k) }
     {
         let number = self.number_of(handle)?;
         match numbering::order_at::<G>(self.engine.table(), number, k) {
@@ -56,8 +56,8 @@ impl<G: Chain, C: Cache> Store<G, C> {
 
     // The number of an order in a set, or none where the order is not in it.
     pub fn place_of(&self, handle: Handle, order: Order) -> Result<Option<u64>, Refusal>
-        ensures reply { result ≡ answered (or_else (handle_asked (view self.now) handle) (order_asked (view self.now) order)) (place_of table (view self.now).nodes handle.number order) }
-        ensures means { IfOk result (Placed table (view self.now).nodes handle.number order) }
+        ensures reply { result ≡ answered (or_else (handle_asked (view self.now) handle) (order_asked (view self.now) order)) (place_of G.table (view self.now).nodes handle.number order) }
+        ensures means { IfOk result (Placed G.table (view self.now).nodes handle.number order) }
     {
         let number = self.number_with_order(handle, order)?;
         Ok(numbering::place_of::<G>(self.engine.table(), number, order))

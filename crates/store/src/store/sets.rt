@@ -9,8 +9,8 @@ use orders::{Chain, Order, Refusal};
 impl<G: Chain, C: Cache> Store<G, C> {
     // A call that works out a set: its questions, then the rule of work with the cache.
     pub fn work(&mut self, call: SetCall) -> Result<Found, Refusal>
-        requires { Kept table recalls self.old }
-        ensures { WorksOut table recalls sure self.old call self.new result }
+        requires { Kept G.table C.recalls self.old }
+        ensures { WorksOut G.table C.recalls C.sure self.old call self.new result }
     {
         let task = self.task_of(call)?;
         let found = self.engine.solve(self.plan.room(), task)?;
@@ -22,56 +22,56 @@ impl<G: Chain, C: Cache> Store<G, C> {
 
     // The set of one order.
     pub fn single(&mut self, order: Order) -> Result<Found, Refusal>
-        requires { Kept table recalls self.old }
-        ensures { WorksOut table recalls sure self.old (SetCall.Single order) self.new result }
+        requires { Kept G.table C.recalls self.old }
+        ensures { WorksOut G.table C.recalls C.sure self.old (SetCall.Single order) self.new result }
     {
         self.work(SetCall::Single(order))
     }
 
     // The orders of either set (union).
     pub fn join(&mut self, a: Handle, b: Handle) -> Result<Found, Refusal>
-        requires { Kept table recalls self.old }
-        ensures { WorksOut table recalls sure self.old (SetCall.Join a b) self.new result }
+        requires { Kept G.table C.recalls self.old }
+        ensures { WorksOut G.table C.recalls C.sure self.old (SetCall.Join a b) self.new result }
     {
         self.work(SetCall::Join(a, b))
     }
 
     // The orders of both sets (intersection).
     pub fn meet(&mut self, a: Handle, b: Handle) -> Result<Found, Refusal>
-        requires { Kept table recalls self.old }
-        ensures { WorksOut table recalls sure self.old (SetCall.Meet a b) self.new result }
+        requires { Kept G.table C.recalls self.old }
+        ensures { WorksOut G.table C.recalls C.sure self.old (SetCall.Meet a b) self.new result }
     {
         self.work(SetCall::Meet(a, b))
     }
 
     // The orders of the first set that the second has not (difference).
     pub fn without(&mut self, a: Handle, b: Handle) -> Result<Found, Refusal>
-        requires { Kept table recalls self.old }
-        ensures { WorksOut table recalls sure self.old (SetCall.Without a b) self.new result }
+        requires { Kept G.table C.recalls self.old }
+        ensures { WorksOut G.table C.recalls C.sure self.old (SetCall.Without a b) self.new result }
     {
         self.work(SetCall::Without(a, b))
     }
 
     // The orders of the set, each followed by the order (right translate).
     pub fn carry(&mut self, a: Handle, order: Order) -> Result<Found, Refusal>
-        requires { Kept table recalls self.old }
-        ensures { WorksOut table recalls sure self.old (SetCall.Carry a order) self.new result }
+        requires { Kept G.table C.recalls self.old }
+        ensures { WorksOut G.table C.recalls C.sure self.old (SetCall.Carry a order) self.new result }
     {
         self.work(SetCall::Carry(a, order))
     }
 
     // Each order of the first set followed by each of the second (product).
     pub fn follow(&mut self, a: Handle, b: Handle) -> Result<Found, Refusal>
-        requires { Kept table recalls self.old }
-        ensures { WorksOut table recalls sure self.old (SetCall.Follow a b) self.new result }
+        requires { Kept G.table C.recalls self.old }
+        ensures { WorksOut G.table C.recalls C.sure self.old (SetCall.Follow a b) self.new result }
     {
         self.work(SetCall::Follow(a, b))
     }
 
     // The orders of the set that have the piece in the place.
     pub fn pick(&mut self, a: Handle, piece: u8, place: u8) -> Result<Found, Refusal>
-        requires { Kept table recalls self.old }
-        ensures { WorksOut table recalls sure self.old (SetCall.Pick a piece place) self.new result }
+        requires { Kept G.table C.recalls self.old }
+        ensures { WorksOut G.table C.recalls C.sure self.old (SetCall.Pick a piece place) self.new result }
     {
         self.work(SetCall::Pick(a, piece, place))
     }

@@ -17,11 +17,11 @@ impl<G: Chain, C: Cache> Store<G, C> {
     // Drops every node that no peg reaches and numbers the others from 2 in their former order; the cache forgets, and a new
     // season begins, so that older handles are declined. Answers how many nodes are left.
     pub fn sweep(&mut self) -> Result<usize, Refusal>
-        requires { Kept table recalls self.old }
-        ensures does { Does table recalls self.old sweep self.new (sweep_reply result) 0 }
+        requires { Kept G.table C.recalls self.old }
+        ensures does { Does G.table C.recalls self.old sweep self.new (sweep_reply result) 0 }
         ensures law { OnOk result (Sweep (view self.old).nodes (view self.old).pegs) }
         ensures lasts { (h : Hold) → Holds (view self.old) h → Holds (view self.new) h }
-        ensures forgot { OnOk result (Emptied (recalls self.new.engine.cache)) }
+        ensures forgot { OnOk result (Emptied (C.recalls self.new.engine.cache)) }
     {
         if self.season == u32::MAX {
             return Err(Refusal::LastSeason);

@@ -8,51 +8,51 @@ use Rattle.sheets.specs.Checks.{Top, tabled, rows, finish, Outcome}
 use Rattle.sheets.proofs.Endings.{fault_is, tabled_none, checked_no_top, checked_no_rows, checked_end}
 use Rattle.sheets.proofs.checking.check.Goals as goal
 
-pub returns-in-err-top : goal.returns-in-err-top
-returns-in-err-top c =
-    let f = c.in-err-top.field-0.0 in
+pub returns-in_err-top : goal.returns-in_err-top
+returns-in_err-top c =
+    let f = c.in_err-top.field-0.0 in
     record {
-      is = ap₂ (λ (l : List NodeLine) (r : Result Checked Fault). (l, r)) c.clear.ensures.items (fault_is f c.from-residual.result c.from-residual.ensures.1)
-          ∙ sym (checked_no_top c.args.pieces c.args.chain c.args.text.now f c.in-err-top.ensures);
+      is = ap₂ (λ (l : List NodeLine) (r : Result Checked Fault). (l, r)) c.clear.ensures.items (fault_is f c.from_residual.result c.from_residual.ensures.1)
+          ∙ sym (checked_no_top c.args.pieces c.args.chain c.args.text.now f c.in_err-top.ensures);
       list = ap length c.clear.ensures.room;
       lender = c.clear.ensures.lender;
     }
 
-pub read-rows-requires : goal.read-rows-requires
-read-rows-requires c = record {
+pub read_rows-requires : goal.read_rows-requires
+read_rows-requires c = record {
   tabled = c.new-table.ensures ∙ sym (ap tabled c.clear.ensures.items ∙ tabled_none);
-  room = omega (arith, ap length c.clear.ensures.items, c.in-ok-top.ensures.0);
+  room = omega (arith, ap length c.clear.ensures.items, c.in_ok-top.ensures.0);
   list = omega (arith, ap length c.clear.ensures.room, c.requires.room);
 }
 
-pub returns-in-err-rest : goal.returns-in-err-rest
-returns-in-err-rest c =
-    let f = c.in-err-rest.field-0.0 in
-    let h = c.in-ok-top.top in
+pub returns-in_err-rest : goal.returns-in_err-rest
+returns-in_err-rest c =
+    let f = c.in_err-rest.field-0.0 in
+    let h = c.in_ok-top.top in
     let t : Top = record { nodes = h.nodes; orders = h.orders; rest = h.rest.now } in
-    let ls = items_of c.read-rows.new.lines in
-    let g = c.in-err-rest.ensures.gives in
+    let ls = items_of c.read_rows.new.lines in
+    let g = c.in_err-rest.ensures.gives in
     let start = ap (λ (l : List NodeLine). rows t.nodes c.args.pieces l t.rest) c.clear.ensures.items in
     record {
-      is = ap (λ (r : Result Checked Fault). (ls, r)) (fault_is f c.from-residual-in-err-rest.result c.from-residual-in-err-rest.ensures.1)
-          ∙ sym (checked_no_rows c.args.pieces c.args.chain c.args.text.now t c.in-ok-top.ensures.1 ls
+      is = ap (λ (r : Result Checked Fault). (ls, r)) (fault_is f c.from_residual-in_err-rest.result c.from_residual-in_err-rest.ensures.1)
+          ∙ sym (checked_no_rows c.args.pieces c.args.chain c.args.text.now t c.in_ok-top.ensures.1 ls
           (g.0 ∙ ap (λ (o : Outcome (List ℕ)). o.0) start) f (ap (λ (o : Outcome (List ℕ)). o.1) (sym start) ∙ g.1));
-      list = c.read-rows.ensures.list ∙ ap length c.clear.ensures.room;
-      lender = c.read-rows.ensures.lender ∙ c.clear.ensures.lender;
+      list = c.read_rows.ensures.list ∙ ap length c.clear.ensures.room;
+      lender = c.read_rows.ensures.lender ∙ c.clear.ensures.lender;
     }
 
 pub returns : goal.returns
 returns c =
-    let h = c.in-ok-top.top in
+    let h = c.in_ok-top.top in
     let t : Top = record { nodes = h.nodes; orders = h.orders; rest = h.rest.now } in
-    let ls = items_of c.read-rows.new.lines in
-    let g = c.in-ok-rest.ensures.gives in
+    let ls = items_of c.read_rows.new.lines in
+    let g = c.in_ok-rest.ensures.gives in
     let start = ap (λ (l : List NodeLine). rows t.nodes c.args.pieces l t.rest) c.clear.ensures.items in
-    let rest = c.in-ok-rest.rest.now in
+    let rest = c.in_ok-rest.rest.now in
     record {
-      is = ap (λ (r : Result Checked Fault). (ls, r)) (c.finish.ensures ∙ ap (λ N. finish N h.orders rest) c.read-rows.ensures.tabled)
-          ∙ sym (checked_end c.args.pieces c.args.chain c.args.text.now t c.in-ok-top.ensures.1 ls
+      is = ap (λ (r : Result Checked Fault). (ls, r)) (c.finish.ensures ∙ ap (λ N. finish N h.orders rest) c.read_rows.ensures.tabled)
+          ∙ sym (checked_end c.args.pieces c.args.chain c.args.text.now t c.in_ok-top.ensures.1 ls
           (g.0 ∙ ap (λ (o : Outcome (List ℕ)). o.0) start) rest (ap (λ (o : Outcome (List ℕ)). o.1) (sym start) ∙ g.1));
-      list = c.read-rows.ensures.list ∙ ap length c.clear.ensures.room;
-      lender = c.read-rows.ensures.lender ∙ c.clear.ensures.lender;
+      list = c.read_rows.ensures.list ∙ ap length c.clear.ensures.room;
+      lender = c.read_rows.ensures.lender ∙ c.clear.ensures.lender;
     }

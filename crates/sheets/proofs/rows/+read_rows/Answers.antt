@@ -15,43 +15,43 @@ returns-then-count-eq0 t c =
       lender = refl;
     }
 
-pub returns-in-err-rest : goal.returns-in-err-rest
-returns-in-err-rest t c =
+pub returns-in_err-rest : goal.returns-in_err-rest
+returns-in_err-rest t c =
     let ls = items_of c.args.lines.now in
-    let next = items_of c.read-row.new.lines in
+    let next = items_of c.read_row.new.lines in
     let text = c.args.text.now in
-    let one = c.in-err-rest.ensures.gives in
-    let f = c.in-err-rest.field-0.0 in
+    let one = c.in_err-rest.ensures.gives in
+    let f = c.in_err-rest.field-0.0 in
     record {
-      gives = gives_fault (rows c.args.count c.args.pieces ls text) next f c.from-residual.result c.from-residual.ensures.1
+      gives = gives_fault (rows c.args.count c.args.pieces ls text) next f c.from_residual.result c.from_residual.ensures.1
           (all_fault c.args.count c.args.pieces ls text c.if-count-eq0.false next one.0 f one.1);
-      tabled = c.read-row.ensures.tabled;
-      list = c.read-row.ensures.list;
-      lender = c.read-row.ensures.lender;
+      tabled = c.read_row.ensures.tabled;
+      list = c.read_row.ensures.list;
+      lender = c.read_row.ensures.lender;
     }
 
-pub read-row-requires : goal.read-row-requires
-read-row-requires t c = record { tabled = c.requires.tabled; room = omega (arith, c.requires.room, c.if-count-eq0.false); list = c.requires.list }
+pub read_row-requires : goal.read_row-requires
+read_row-requires t c = record { tabled = c.requires.tabled; room = omega (arith, c.requires.room, c.if-count-eq0.false); list = c.requires.list }
 
-pub read-rows-requires : goal.read-rows-requires
-read-rows-requires t c =
+pub read_rows-requires : goal.read_rows-requires
+read_rows-requires t c =
     let ls = items_of c.args.lines.now in
-    let next = items_of c.read-row.new.lines in
-    let one = c.in-ok-rest.ensures.gives in
-    let on = all_on c.args.count c.args.pieces ls c.args.text.now c.if-count-eq0.false next one.0 c.in-ok-rest.rest.now one.1 in (
+    let next = items_of c.read_row.new.lines in
+    let one = c.in_ok-rest.ensures.gives in
+    let on = all_on c.args.count c.args.pieces ls c.args.text.now c.if-count-eq0.false next one.0 c.in_ok-rest.rest.now one.1 in (
       omega (arith, c.decreases, c.if-count-eq0.false),
-      (c.read-row.ensures.tabled, (omega (arith, on.0, c.requires.room, c.if-count-eq0.false), omega (arith, c.read-row.ensures.list, c.requires.list))),
+      (c.read_row.ensures.tabled, (omega (arith, on.0, c.requires.room, c.if-count-eq0.false), omega (arith, c.read_row.ensures.list, c.requires.list))),
     )
 
 pub returns : goal.returns
 returns t c =
     let ls = items_of c.args.lines.now in
-    let next = items_of c.read-row.new.lines in
-    let one = c.in-ok-rest.ensures.gives in
-    let on = all_on c.args.count c.args.pieces ls c.args.text.now c.if-count-eq0.false next one.0 c.in-ok-rest.rest.now one.1 in
+    let next = items_of c.read_row.new.lines in
+    let one = c.in_ok-rest.ensures.gives in
+    let on = all_on c.args.count c.args.pieces ls c.args.text.now c.if-count-eq0.false next one.0 c.in_ok-rest.rest.now one.1 in
     record {
-      gives = subst (λ o. Gives o (items_of c.read-rows.new.lines) c.read-rows.result) (sym on.1) c.read-rows.ensures.gives;
-      tabled = c.read-rows.ensures.tabled;
-      list = c.read-rows.ensures.list ∙ c.read-row.ensures.list;
-      lender = c.read-rows.ensures.lender ∙ c.read-row.ensures.lender;
+      gives = subst (λ o. Gives o (items_of c.read_rows.new.lines) c.read_rows.result) (sym on.1) c.read_rows.ensures.gives;
+      tabled = c.read_rows.ensures.tabled;
+      list = c.read_rows.ensures.list ∙ c.read_row.ensures.list;
+      lender = c.read_rows.ensures.lender ∙ c.read_row.ensures.lender;
     }

@@ -5,23 +5,23 @@ use Rattle.sheets.specs.Checks.{tabled, grown}
 use Rattle.sheets.proofs.Entries.{tabled_push, kept_in, made, added}
 use Rattle.sheets.proofs.rows.enter.Goals as goal
 
-pub overflow-cast-line : goal.overflow-cast-line
-overflow-cast-line c =
+pub overflow_cast-line : goal.overflow_cast-line
+overflow_cast-line c =
     let k = kept_in c.args.pieces (rows c.args.table.now) (items_of c.args.lines.now) c.args.line c.requires.tabled c.requires.room c.requires.keeps in
     omega (arith, k.1.asks.x_max)
 
-pub overflow-cast-line-2 : goal.overflow-cast-line-2
-overflow-cast-line-2 c =
+pub overflow_cast-line-2 : goal.overflow_cast-line-2
+overflow_cast-line-2 c =
     let k = kept_in c.args.pieces (rows c.args.table.now) (items_of c.args.lines.now) c.args.line c.requires.tabled c.requires.room c.requires.keeps in
     omega (arith, k.1.asks.x_max, k.1.asks.y_below)
 
-pub overflow-cast-line-3 : goal.overflow-cast-line-3
-overflow-cast-line-3 c =
+pub overflow_cast-line-3 : goal.overflow_cast-line-3
+overflow_cast-line-3 c =
     let k = kept_in c.args.pieces (rows c.args.table.now) (items_of c.args.lines.now) c.args.line c.requires.tabled c.requires.room c.requires.keeps in
     omega (arith, k.0, k.1.asks.lo_there)
 
-pub overflow-cast-line-4 : goal.overflow-cast-line-4
-overflow-cast-line-4 c =
+pub overflow_cast-line-4 : goal.overflow_cast-line-4
+overflow_cast-line-4 c =
     let k = kept_in c.args.pieces (rows c.args.table.now) (items_of c.args.lines.now) c.args.line c.requires.tabled c.requires.room c.requires.keeps in
     omega (arith, k.0, k.1.asks.hi_there)
 

@@ -10,14 +10,14 @@ use Rattle.sheets.proofs.Tops.{held_line, field_line}
 use Rattle.sheets.proofs.Entries.{row_no_values, row_bad, row_good, gives_fault}
 use Rattle.sheets.proofs.rows.read_row.Goals as goal
 
-pub returns-in-err-found : goal.returns-in-err-found
-returns-in-err-found c =
+pub returns-in_err-found : goal.returns-in_err-found
+returns-in_err-found c =
     let ls = items_of c.args.lines.now in
     let text = c.args.text.now in
-    let e = ap (λ n. values 4 (n + 4) text) (sym c.len.ensures) ∙ c.in-err-found.ensures in
+    let e = ap (λ n. values 4 (n + 4) text) (sym c.len.ensures) ∙ c.in_err-found.ensures in
     record {
-      gives = gives_fault (rows 1 c.args.pieces ls text) ls c.in-err-found.field-0.0 c.from-residual.result c.from-residual.ensures.1
-          (row_no_values c.args.pieces ls text c.in-err-found.field-0.0 e);
+      gives = gives_fault (rows 1 c.args.pieces ls text) ls c.in_err-found.field-0.0 c.from_residual.result c.from_residual.ensures.1
+          (row_no_values c.args.pieces ls text c.in_err-found.field-0.0 e);
       tabled = c.requires.tabled;
       list = refl;
       lender = refl;
@@ -27,15 +27,15 @@ pub returns-then-not-keeps : goal.returns-then-not-keeps
 returns-then-not-keeps c =
     let ls = items_of c.args.lines.now in
     let text = c.args.text.now in
-    let told = c.in-ok-found.ensures in
-    let f = c.in-ok-found.found in
-    let rest = c.in-ok-found.rest.now in
+    let told = c.in_ok-found.ensures in
+    let f = c.in_ok-found.found in
+    let rest = c.in_ok-found.rest.now in
     let e : values 4 (length ls + 4) text ≡ Ok (held f, rest) = ap (λ n. values 4 (n + 4) text) (sym c.len.ensures) ∙ told.1 in
     let is = held_line f told.0 (length ls + 4) text rest e in
     let no : keeps c.args.pieces (tabled ls) (line_from (held f)) ≡ false =
     ap (keeps c.args.pieces (tabled ls)) is ∙ ap (λ N. keeps c.args.pieces N (field_line f)) (sym c.requires.tabled) ∙ sym c.if-not-keeps.ensures in
     let o = row_bad c.args.pieces ls text (held f) rest e no in
-    let fault : bad_node (length ls + 4) ≡ c.bad-node.result = ap (λ n. bad_node (n + 4)) (sym c.len.ensures) ∙ sym c.bad-node.ensures in
+    let fault : bad_node (length ls + 4) ≡ c.bad_node.result = ap (λ n. bad_node (n + 4)) (sym c.len.ensures) ∙ sym c.bad_node.ensures in
     record {
       gives = (sym (ap (λ (p : Outcome (List ℕ)). p.0) o), ap (λ (p : Outcome (List ℕ)). p.1) o ∙ ap Err fault);
       tabled = c.requires.tabled;
@@ -55,9 +55,9 @@ pub returns : goal.returns
 returns c =
     let ls = items_of c.args.lines.now in
     let text = c.args.text.now in
-    let told = c.in-ok-found.ensures in
-    let f = c.in-ok-found.found in
-    let rest = c.in-ok-found.rest.now in
+    let told = c.in_ok-found.ensures in
+    let f = c.in_ok-found.found in
+    let rest = c.in_ok-found.rest.now in
     let e : values 4 (length ls + 4) text ≡ Ok (held f, rest) = ap (λ n. values 4 (n + 4) text) (sym c.len.ensures) ∙ told.1 in
     let is = held_line f told.0 (length ls + 4) text rest e in
     let yes : keeps c.args.pieces (tabled ls) (line_from (held f)) ≡ true =

@@ -10,8 +10,8 @@ returns-in-120 c =
     let same : From 0 node_names text = search rules in
     names_ok node_names 3 text _ (front_read node_names text long same)
 
-pub returns-in-default : goal.returns-in-default
-returns-in-default c =
+pub returns-in_default : goal.returns-in_default
+returns-in_default c =
     let text = c.args.text.now in
     let bar : (rest : List ℕ) → text ≡ node_names ++ rest → ⊥ = search rules in
-    names_no node_names 3 text bar ∙ ap Err (sym c.bad-line.ensures)
+    names_no node_names 3 text bar ∙ ap Err (sym c.bad_line.ensures)

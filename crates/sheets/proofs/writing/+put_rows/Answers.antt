@@ -7,12 +7,12 @@ use Rattle.sheets.specs.Format.{node_values, node_lines}
 use Rattle.sheets.proofs.Sheets.{lines_none, length-lines, length_rest, put_lines}
 use Rattle.sheets.proofs.writing.+put_rows.Goals as goal
 
-pub put-rows-requires : goal.put-rows-requires
-put-rows-requires t c =
+pub put_rows-requires : goal.put_rows-requires
+put_rows-requires t c =
     let ls = c.args.lines.now in
     let some : 0 < length ls = omega (arith, ltb-false) in
     let w = c.in-Ok.ensures in
-    let long = long_as c.args.page.now c.put-line.new.page c.args.at (line (node_values (get_or ls 0 blank))) w.room w.page in
+    let long = long_as c.args.page.now c.put_line.new.page c.args.at (line (node_values (get_or ls 0 blank))) w.room w.page in
     (omega (arith, length_rest ls some, c.decreases), omega (arith, length-lines ls some, long, w.ends, c.requires))
 
 pub returns-in-empty : goal.returns-in-empty
@@ -29,8 +29,8 @@ returns-in-Ok t c =
     let some : 0 < length ls = omega (arith, ltb-false) in
     let w = c.in-Ok.ensures in
     record {
-      end = omega (arith, length-lines ls some, w.ends, c.put-rows.ensures.end);
-      page = put_lines ls some c.args.page.now c.put-line.new.page c.put-rows.new.page c.args.at c.in-Ok.next c.requires w.ends w.page c.put-rows.ensures.page;
+      end = omega (arith, length-lines ls some, w.ends, c.put_rows.ensures.end);
+      page = put_lines ls some c.args.page.now c.put_line.new.page c.put_rows.new.page c.args.at c.in-Ok.next c.requires w.ends w.page c.put_rows.ensures.page;
     }
 
 pub returns-in-Err : goal.returns-in-Err

@@ -11,6 +11,6 @@ returns-in-len1-up t c =
     let some : 0 < length ls = omega (arith, ltb-false) in
     let rest = length_rest ls some in
     record {
-      bytes = omega (arith, length-lines ls some, c.line-len.ensures.bytes, c.rows-len.ensures.bytes);
-      few = omega (arith, rest, c.line-len.ensures.few, c.rows-len.ensures.few);
+      bytes = omega (arith, length-lines ls some, c.line_len.ensures.bytes, c.rows_len.ensures.bytes);
+      few = omega (arith, rest, c.line_len.ensures.few, c.rows_len.ensures.few);
     }

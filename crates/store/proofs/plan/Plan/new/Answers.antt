@@ -11,9 +11,9 @@ pub returns-then-capacity-eq0 : goal.returns-then-capacity-eq0
 unfolding plan_asked
 returns-then-capacity-eq0 c = grind (arith, nat_tests)
 
-pub returns-in-default : goal.returns-in-default
+pub returns-in_default : goal.returns-in_default
 unfolding plan_asked
-returns-in-default c = let more = c.in-default.ensures in grind (arith, nat_tests)
+returns-in_default c = let more = c.in_default.ensures in grind (arith, nat_tests)
 
 pub returns : goal.returns
 unfolding plan_asked

@@ -3,8 +3,8 @@ use Rattle.tables.specs.Rows.{rows}
 use Rattle.store.proofs.Racks.{none_pegged, unpegged}
 use Rattle.store.proofs.store.Store.begin.Goals as goal
 
-pub invariant-of-result : goal.invariant-of-result
-invariant-of-result g c = (refl, (none_pegged (rows c.new.result.table) 64, tt))
+pub invariant_of-result : goal.invariant_of-result
+invariant_of-result g c = record { racked = refl; pegged = none_pegged (rows c.new.result.table) 64 }
 
 pub returns : goal.returns
 returns g c = record {

@@ -4,5 +4,5 @@ use Rattle.store.proofs.store.Store.count.Goals as goal
 
 pub count-requires : goal.count-requires
 count-requires g c =
-    let yes = accepted _ _ _ c.in-ok-number.ensures in
+    let yes = accepted _ _ _ c.in_ok-number.ensures in
     rw (c.table.ensures, yes.1) (handle_there (view c.args.self.now) c.args.handle yes.0).1

@@ -7,10 +7,10 @@ pub returns-then-peg : goal.returns-then-peg
 unfolding peg_asked
 returns-then-peg g c = grind (arith, nat_tests)
 
-pub returns-then-is-some : goal.returns-then-is-some
+pub returns-then-is_some : goal.returns-then-is_some
 unfolding peg_asked
-returns-then-is-some g c = let is = c.if-is-some.ensures in grind (arith, nat_tests)
+returns-then-is_some g c = let is = c.if-is_some.ensures in grind (arith, nat_tests)
 
 pub returns : goal.returns
 unfolding peg_asked
-returns g c = let is = c.if-is-some.ensures in grind (arith, nat_tests)
+returns g c = let is = c.if-is_some.ensures in grind (arith, nat_tests)

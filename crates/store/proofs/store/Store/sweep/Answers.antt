@@ -27,17 +27,18 @@ returns-then-self g c = record {
 pub sweep-requires : goal.sweep-requires
 sweep-requires g c = rw c.table.ensures c.args.self.now.pegged
 
-pub invariant-of-self : goal.invariant-of-self
-invariant-of-self g c =
+pub invariant_of-self : goal.invariant_of-self
+invariant_of-self g c =
     let s = c.args.self.now in
     let N = rows s.engine.table in
     let P = s.pegs in
     let nodes : rows c.replace.new.self.table ≡ swept N P =
     ap rows c.replace.ensures.table ∙ c.sweep.ensures.nodes ∙ ap (λ t. swept (rows t) P) c.table.ensures in
-    let pegs : c.sweep.result.pegs ≡ pegs_after N P = c.sweep.ensures.held ∙ ap (λ t. pegs_after (rows t) P) c.table.ensures in (
-      ap length pegs ∙ pegs_long N P ∙ s.racked,
-      (λ p n e. rw nodes (pegs_there N P (sound_of s.engine.table) s.pegged p n (ap (λ l. get_or l p None) (sym pegs) ∙ e)), tt),
-    )
+    let pegs : c.sweep.result.pegs ≡ pegs_after N P = c.sweep.ensures.held ∙ ap (λ t. pegs_after (rows t) P) c.table.ensures in
+    record {
+      racked = ap length pegs ∙ pegs_long N P ∙ s.racked;
+      pegged = λ p n e. rw nodes (pegs_there N P (sound_of s.engine.table) s.pegged p n (ap (λ l. get_or l p None) (sym pegs) ∙ e));
+    }
 
 pub returns : goal.returns
 returns g c =

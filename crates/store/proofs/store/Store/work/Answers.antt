@@ -17,32 +17,35 @@ use Rattle.store.proofs.store.Store.work.Goals as goal
 pub solve-requires : goal.solve-requires
 solve-requires g c =
     let w = view c.args.self.now in
-    let yes = accepted _ _ _ c.in-ok-task.ensures in
+    let yes = accepted _ _ _ c.in_ok-task.ensures in
     record {
       valid = subst (Valid w.nodes) (sym yes.1) (valid w c.args.call yes.0);
       kept = rw c.room.ensures c.requires;
     }
 
-pub invariant-of-self : goal.invariant-of-self
-invariant-of-self g c =
+pub invariant_of-self : goal.invariant_of-self
+invariant_of-self g c =
     let s = c.args.self.now in
     let w = view s in
-    let yes = accepted _ _ _ c.in-ok-task.ensures in
+    let yes = accepted _ _ _ c.in_ok-task.ensures in
     let v = subst (Valid w.nodes) (sym yes.1) (valid w c.args.call yes.0) in
-    (s.racked, (pegged_more w.nodes _ s.pegs (grown _ g.G.Chain.table g.met.G.Chain.laws _ w.nodes c.in-ok-task.task (sound_of s.engine.table) v _ _ c.solve.ensures.rule) s.pegged, tt))
+    record {
+      racked = s.racked;
+      pegged = pegged_more w.nodes _ s.pegs (grown _ g.G.Chain.table g.met.G.Chain.laws _ w.nodes c.in_ok-task.task (sound_of s.engine.table) v _ _ c.solve.ensures.rule) s.pegged;
+    }
 
-pub returns-in-err-found : goal.returns-in-err-found
-returns-in-err-found g c =
+pub returns-in_err-found : goal.returns-in_err-found
+returns-in_err-found g c =
     let s = c.args.self.now in
     let w = view s in
     let t = g.G.Chain.table in
     let call = c.args.call in
-    let yes = accepted _ _ _ c.in-ok-task.ensures in
+    let yes = accepted _ _ _ c.in_ok-task.ensures in
     let same = same_work t w.nodes _ _ _ _ (ap (λ r. r.nodes) c.room.ensures) yes.1 in
-    let solved = c.in-err-found.ensures in
+    let solved = c.in_err-found.ensures in
     let f = as_full _ _ _ _ solved.rule in
     let is = same ∙ f.0 in
-    let p = err_from_is_err_and c.from-residual-in-err-found.result c.from-residual-in-err-found.ensures.1 in
+    let p = err_from_is_err_and c.from_residual-in_err-found.result c.from_residual-in_err-found.ensures.1 in
     rw (p.1, p.2) (record {
       does = record {
         after = ap (λ e. (with_nodes w (rows c.solve.new.self.table), declined e)) f.1 ∙ step_is t w call yes.0 _ is;
@@ -59,9 +62,9 @@ returns g c =
     let w = view s in
     let t = g.G.Chain.table in
     let call = c.args.call in
-    let yes = accepted _ _ _ c.in-ok-task.ensures in
+    let yes = accepted _ _ _ c.in_ok-task.ensures in
     let same = same_work t w.nodes _ _ _ _ (ap (λ r. r.nodes) c.room.ensures) yes.1 in
-    let solved = c.in-ok-found.ensures in
+    let solved = c.in_ok-found.ensures in
     let d = as_done _ _ _ _ solved.rule in
     let is = same ∙ d.is in
     let recalls-before = g.C.Cache.recalls s.engine.cache in
@@ -76,7 +79,7 @@ returns g c =
       answers = record {
         set = rw c.handle.ensures (set_is t w call yes.0 g.met.G.Chain.laws (sound_of s.engine.table) _ _ _ is);
         least = d.counts.least;
-        once = λ v e. once_is _ _ v (subst (λ u. Once (recalls-before (kind_of u) (first_of u) (right_of u)) (Ok c.in-ok-found.found)) yes.1 solved.once) e;
-        told = rw c.handle.ensures (subst (λ u. g.C.Cache.sure ≡ 1 → outright u ≡ None → recalls-after (kind_of u) (first_of u) (right_of u) ≡ Some c.in-ok-found.found.number) yes.1 solved.told);
+        once = λ v e. once_is _ _ v (subst (λ u. Once (recalls-before (kind_of u) (first_of u) (right_of u)) (Ok c.in_ok-found.found)) yes.1 solved.once) e;
+        told = rw c.handle.ensures (subst (λ u. g.C.Cache.sure ≡ 1 → outright u ≡ None → recalls-after (kind_of u) (first_of u) (right_of u) ≡ Some c.in_ok-found.found.number) yes.1 solved.told);
       };
     }
