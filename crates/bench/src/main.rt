@@ -17,7 +17,7 @@ const HASHED_ROUNDS: usize = 10000;
 // Whether the program was given the word `time`.
 fn asked_for_time(rt: &HostRuntime) -> io::Result<bool> {
     for word in env::args(rt)? {
-        if word == "time" {
+        if word.as_str() == "time" {
             return Ok(true);
         }
     }

@@ -35,11 +35,11 @@ fn enter<G: Chain, C: Cache>(
     lines: &[NodeLine],
     numbers: &mut Filled<u32>,
 ) -> Result<(), Fault>
-    requires kept { Kept table recalls store.old }
+    requires kept { Kept G.table C.recalls store.old }
     requires room { length (items_of numbers.old) + length lines.now ≤ length (room_of numbers.old) }
     requires few { length (room_of numbers.old) ≤ 2046 }
     ensures is { Gave (enters (view store.old) (items_of numbers.old) lines.now) (view store.new) (items_of numbers.new) result }
-    ensures kept { Kept table recalls store.new }
+    ensures kept { Kept G.table C.recalls store.new }
     ensures lender { numbers.new.room.ghost_name ≡ numbers.old.room.ghost_name }
 {
     match lines {
@@ -65,10 +65,10 @@ fn enter<G: Chain, C: Cache>(
 // Checks a whole sheet, and then finds or adds its nodes in the store, line by line. Answers the set's handle, and the text is that set's own
 // sheet; or the fault: of the sheet, and then nothing has changed, or of the line whose node found no room, and then the nodes made so far stay.
 pub fn read<G: Chain, C: Cache>(store: &mut Store<G, C>, text: &[u8]) -> Result<Handle, Fault>
-    requires { Kept table recalls store.old }
-    ensures is { (view store.new, result) ≡ reads number (view store.old) text.now }
-    ensures sheet { IfOk result (λ h. text.now ≡ sheet_text number (view store.new).nodes h.number) }
-    ensures kept { Kept table recalls store.new }
+    requires { Kept G.table C.recalls store.old }
+    ensures is { (view store.new, result) ≡ reads G.number (view store.old) text.now }
+    ensures sheet { IfOk result (λ h. text.now ≡ sheet_text G.number (view store.new).nodes h.number) }
+    ensures kept { Kept G.table C.recalls store.new }
 {
     let mut room = [BLANK; LINES];
     let mut lines = Filled::new(&mut room);

@@ -33,7 +33,7 @@ fn row_text(heap: Global, row: [u8; 16]) -> Result<String, AllocError>
 
 // The factors of an order by one chain.
 fn factor_text<C: Chain>(heap: Global, order: Order) -> Result<String, AllocError>
-    ensures { IfOk result (λ t. string_bytes t ≡ factors_text (factor_pairs table order)) }
+    ensures { IfOk result (λ t. string_bytes t ≡ factors_text (factor_pairs C.table order)) }
 {
     row_text(heap, factors::<C>(order))
 }

@@ -5,13 +5,13 @@ use Rattle.books.proofs.Steps.{kept_cleared, kept_then}
 use Rattle.books.proofs.Books.{exact, read_fault, read_rows}
 use Rattle.books.proofs.book.read_book.Goals as goal
 
-pub returns-in-err-book : goal.returns-in-err-book
-returns-in-err-book c =
+pub returns-in_err-book : goal.returns-in_err-book
+returns-in_err-book c =
     let room = length (room_of c.args.list.now) in
     let text = c.args.bytes.now in
     let cs = items_of c.clear.new.self in
-    let r = c.from-residual.result in
-    let o = read_fault room text cs c.in-err-book.field-0.0 r c.from-residual.ensures.1 c.clear.ensures.items c.in-err-book.ensures in
+    let r = c.from_residual.result in
+    let o = read_fault room text cs c.in_err-book.field-0.0 r c.from_residual.ensures.1 c.clear.ensures.items c.in_err-book.ensures in
     record {
       outcome = o;
       exact = exact room text cs r o;
@@ -22,18 +22,18 @@ pub returns : goal.returns
 returns c =
     let room = length (room_of c.args.list.now) in
     let text = c.args.bytes.now in
-    let b = c.in-ok-book.book in
-    let rest = c.in-ok-book.orders.now in
+    let b = c.in_ok-book.book in
+    let rest = c.in_ok-book.orders.now in
     let cleared = c.clear.new.self in
-    let cs = items_of c.read-orders.new.list in
-    let r = c.read-orders.result in
+    let cs = items_of c.read_orders.new.list in
+    let r = c.read_orders.result in
     let o : ◌≡◌ {A = Outcome} (cs, r) _ =
-    c.read-orders.ensures.outcome
+    c.read_orders.ensures.outcome
     ∙ ap₂ (λ (n : ℕ) (l : List ℕ). rows (length rest) b n l rest) (ap length c.clear.ensures.room) c.clear.ensures.items
-    ∙ read_rows room text b rest c.in-ok-book.ensures in
+    ∙ read_rows room text b rest c.in_ok-book.ensures in
     record {
       outcome = o;
       exact = exact room text cs r o;
-      kept = kept_then c.args.list.now cleared c.read-orders.new.list (omega (arith, ap length c.clear.ensures.items))
-          (kept_cleared c.args.list.now cleared c.clear.ensures.room c.clear.ensures.lender) c.read-orders.ensures.kept;
+      kept = kept_then c.args.list.now cleared c.read_orders.new.list (omega (arith, ap length c.clear.ensures.items))
+          (kept_cleared c.args.list.now cleared c.clear.ensures.room c.clear.ensures.lender) c.read_orders.ensures.kept;
     }

@@ -10,8 +10,8 @@ returns-in-112 c =
     let same : From 0 head text = search rules in
     names_ok head 1 text _ (front_read head text long same)
 
-pub returns-in-default : goal.returns-in-default
-returns-in-default c =
+pub returns-in_default : goal.returns-in_default
+returns-in_default c =
     let text = c.args.text.now in
     let bar : (rest : List ℕ) → text ≡ head ++ rest → ⊥ = search rules in
-    names_no head 1 text bar ∙ ap Err (sym c.bad-line.ensures)
+    names_no head 1 text bar ∙ ap Err (sym c.bad_line.ensures)

@@ -10,8 +10,8 @@ returns-in-111 c =
     let same : From 0 order_name text = search rules in
     names_ok order_name 3 text _ (front_read order_name text long same)
 
-pub returns-in-default : goal.returns-in-default
-returns-in-default c =
+pub returns-in_default : goal.returns-in_default
+returns-in_default c =
     let text = c.args.text.now in
     let bar : (rest : List ℕ) → text ≡ order_name ++ rest → ⊥ = search rules in
-    names_no order_name 3 text bar ∙ ap Err (sym c.bad-line.ensures)
+    names_no order_name 3 text bar ∙ ap Err (sym c.bad_line.ensures)

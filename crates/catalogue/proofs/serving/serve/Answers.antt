@@ -15,6 +15,6 @@ returns-in-Sweep g c =
 
 pub returns-in-Read : goal.returns-in-Read
 returns-in-Read g c =
-    let is = c.read.ensures.is ∙ ap (reads g.G.Chain.number (view c.args.store.now)) c.as-slice.ensures.value in
+    let is = c.read.ensures.is ∙ ap (reads g.G.Chain.number (view c.args.store.now)) c.as_slice.ensures.value in
     subst (λ (q : Request). Serves g.G.Chain.number g.G.Chain.table g.C.Cache.recalls c.args.store.now q c.read.new.store (slots_of c.args.rack.now) (answer.Read c.read.result)) (sym c.in-Read.is)
     (read_serves g.G.Chain.number g.G.Chain.table g.C.Cache.recalls c.args.store.now (slots_of c.args.rack.now) c.requires.kept c.requires.racked c.read.new.store c.in-Read.text c.read.result is c.read.ensures.kept)

@@ -31,8 +31,8 @@ front-requires g c =
     let yes = accepted (handle_asked w name) name c.in-Ok.handle c.in-Ok.ensures in
     (sheet_fits g.G.Chain.number w name blank c.write.new.page yes.0 c.in-Ok-write.end (named g.G.Chain.number w c.args.name c.in-Ok.handle c.write.new.page _ yes.1 c.in-Ok-write.ensures)).0
 
-pub returns-in-ok-front : goal.returns-in-ok-front
-returns-in-ok-front g c =
+pub returns-in_ok-front-in-Ok-write : goal.returns-in_ok-front-in-Ok-write
+returns-in_ok-front-in-Ok-write g c =
     let w = view c.args.store.now in
     let name = handle_named c.args.name in
     let yes = accepted (handle_asked w name) name c.in-Ok.handle c.in-Ok.ensures in

@@ -35,8 +35,8 @@ returns-in-Ok g t c =
     let some : 0 < length ls = omega (arith, ltb-false) in
     let rs = items_of c.args.numbers.now in
     let h = c.in-Ok.handle in
-    let low = c.from.ensures ∙ c.number-of-lo.ensures ∙ ap (λ (l : List ℕ). taken l (get_or ls 0 blank).lo) c.items.ensures in
-    let high = c.from-in-len1-up.ensures ∙ c.number-of-hi.ensures ∙ ap (λ (l : List ℕ). taken l (get_or ls 0 blank).hi) c.items-in-len1-up.ensures in
+    let low = c.from.ensures ∙ c.number_of-lo.ensures ∙ ap (λ (l : List ℕ). taken l (get_or ls 0 blank).lo) c.items.ensures in
+    let high = c.from-in-len1-up.ensures ∙ c.number_of-hi.ensures ∙ ap (λ (l : List ℕ). taken l (get_or ls 0 blank).hi) c.items-in-len1-up.ensures in
     let grown = added c.args.numbers.now c.add-in-Ok.new.self h.number c.add-in-Ok.result c.add-in-Ok.ensures.answer (omega (arith, some, c.requires.room)) in
     let is = enters_found g.G.Chain.table w v rs ls some _ _ low high h c.in-Ok.ensures.after ∙ ap (λ (l : List ℕ). enters v l (between 1 (length ls) ls)) (sym grown.0) in
     record {
@@ -53,8 +53,8 @@ returns-in-Err g t c =
     let some : 0 < length ls = omega (arith, ltb-false) in
     let rs = items_of c.args.numbers.now in
     let e = c.in-Err.refusal in
-    let low = c.from.ensures ∙ c.number-of-lo.ensures ∙ ap (λ (l : List ℕ). taken l (get_or ls 0 blank).lo) c.items.ensures in
-    let high = c.from-in-len1-up.ensures ∙ c.number-of-hi.ensures ∙ ap (λ (l : List ℕ). taken l (get_or ls 0 blank).hi) c.items-in-len1-up.ensures in
+    let low = c.from.ensures ∙ c.number_of-lo.ensures ∙ ap (λ (l : List ℕ). taken l (get_or ls 0 blank).lo) c.items.ensures in
+    let high = c.from-in-len1-up.ensures ∙ c.number_of-hi.ensures ∙ ap (λ (l : List ℕ). taken l (get_or ls 0 blank).hi) c.items-in-len1-up.ensures in
     let d = c.in-Err.ensures in
     record {
       is = enters_declined g.G.Chain.table w v rs ls some _ _ low high e d.after ∙ ap (λ k. (v, Err (in_store e (k + 4)))) (sym c.len.ensures);

@@ -13,10 +13,10 @@ pub returns-in-Some : goal.returns-in-Some
 returns-in-Some c =
     let row = c.in-Some.row in
     let read = c.in-Some.ensures in
-    cases_map _ _ _ _ c.order-of.result
+    cases_map _ _ _ _ c.order_of.result
     (λ o w. (held row, read.1, read.3, w))
     (λ e r. record {
       why = r.why;
       none = λ o is. r.none o (subst (λ l. Writes l (length l) o) (written_tells is.0 (held row) is.1 read.1 is.3.some read.2 (sym is.2 ∙ read.3)) is.3);
     })
-    c.order-of.ensures
+    c.order_of.ensures

@@ -5,4 +5,4 @@ use Rattle.factors.proofs.text.factor_text.Goals as goal
 
 pub returns : goal.returns
 unfolding factor_pairs
-returns g c = rw (sym c.factors.ensures) c.row-text.ensures
+returns g c = rw (sym c.factors.ensures) c.row_text.ensures

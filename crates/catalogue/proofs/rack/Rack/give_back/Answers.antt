@@ -13,8 +13,8 @@ loop-slot-init g c = let v = c.args.self.slots in record { kept = c.requires.kep
 before : (w : View) (L L' : Slots) (o x : Option Hold) → L ≡ L' ++ o ∷ [] → o ≡ x → Holding w L → Holding w (L' ++ x ∷ [])
 before w L L' o x e f k = subst (λ (y : Option Hold). Holding w (L' ++ y ∷ [])) f (subst (λ (S : Slots). Holding w S) e k)
 
-pub give-back-requires : goal.give-back-requires
-give-back-requires g c =
+pub give_back-requires : goal.give_back-requires
+give_back-requires g c =
     let s = c.loop-slot.store in
     let v = c.pop.new.self in
     let L = v.items in
@@ -26,7 +26,7 @@ pub loop-slot-preserved-in-Some-slot : goal.loop-slot-preserved-in-Some-slot
 loop-slot-preserved-in-Some-slot g c =
     let s = c.loop-slot.store in
     let w = view s in
-    let t = view c.give-back.new.self in
+    let t = view c.give_back.new.self in
     let v = c.pop.new.self in
     let L = v.items in
     let d = c.in-Some-slot.hold in
@@ -34,9 +34,9 @@ loop-slot-preserved-in-Some-slot g c =
     let k = before w c.loop-slot.rest.items L _ _ c.in-Some.ensures.items c.in-Some-slot.is c.loop-slot.invariant.each in
     let last = last_held w L d k s.racked lt in
     let after : t ≡ with_pegs w (set w.pegs (length L) None) =
-    taken_back g.G.Chain.table w t d last.held.0 last.held.1 c.give-back.ensures.after ∙ ap (λ p. with_pegs w (set w.pegs p None)) last.peg in
+    taken_back g.G.Chain.table w t d last.held.0 last.held.1 c.give_back.ensures.after ∙ ap (λ p. with_pegs w (set w.pegs p None)) last.peg in
     record {
-      kept = c.give-back.ensures.kept;
+      kept = c.give_back.ensures.kept;
       few = omega (arith, c.in-Some.ensures.cases, c.loop-slot.invariant.few);
       each = subst (λ (x : View). Holding x L) (sym after) (gone_some w L d k s.racked lt);
       only = only_pegs (view c.args.store.now) w t (set w.pegs (length L) None) c.loop-slot.invariant.only after;
@@ -57,7 +57,7 @@ pub returns : goal.returns
 returns g c =
     let s = c.loop-slot.store in
     let v = c.loop-slot.rest in
-    let nil = none_left v.items (omega (arith, v.ok.0, c.in-default.ensures.cases.0)) in
+    let nil = none_left v.items (omega (arith, v.ok.0, c.in_default.ensures.cases.0)) in
     record {
       kept = c.loop-slot.invariant.kept;
       view = c.loop-slot.invariant.only ∙ ap (with_pegs (view c.args.store.now)) (none_pegged (view s) s.racked (subst (λ (L : Slots). Holding (view s) L) nil c.loop-slot.invariant.each));

@@ -8,7 +8,7 @@ abbrev empty : Option Hold
 empty = None
 
 pub loop-init : goal.loop-init
-loop-init c = let m = c.in-ok-slots.ensures in record { items = m.items; len = m.len; room = m.capacity }
+loop-init c = let m = c.in_ok-slots.ensures in record { items = m.items; len = m.len; room = m.capacity }
 
 pub unreachable-requires : goal.unreachable-requires
 unreachable-requires c = let i = c.loop.invariant in omega (arith, c.in-Err.ensures.full, c.loop-test.true, i.len, i.room)
@@ -26,8 +26,8 @@ loop-preserved c =
 all : (slots : Slots) (n : ℕ) → slots ≡ replicate n empty → 64 ≤ n → n ≤ 64 → slots ≡ replicate 64 empty
 all slots n e h k = let f : n ≡ 64 = omega arith in e ∙ ap (λ (m : ℕ). replicate m empty) f
 
-pub invariant-of-result : goal.invariant-of-result
-invariant-of-result c = (ap (length {A = Option Hold}) (all _ _ c.loop.invariant.items c.loop-test.false c.loop.auto.counter-end) ∙ length-replicate 64 empty, tt)
+pub invariant_of-result : goal.invariant_of-result
+invariant_of-result c = (ap (length {A = Option Hold}) (all _ _ c.loop.invariant.items c.loop-test.false c.loop.auto.counter-end) ∙ length-replicate 64 empty, tt)
 
 pub returns : goal.returns
 returns c = all _ _ c.loop.invariant.items c.loop-test.false c.loop.auto.counter-end

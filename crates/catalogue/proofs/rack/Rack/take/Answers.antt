@@ -4,10 +4,10 @@ use Rattle.catalogue.specs.Racks.{slots_of}
 use Rattle.catalogue.proofs.Slots.{found_there, found_not, some_within, took}
 use Rattle.catalogue.proofs.rack.Rack.take.Goals as goal
 
-pub index-mut-requires : goal.index-mut-requires
-index-mut-requires c =
+pub index_mut-requires : goal.index_mut-requires
+index_mut-requires c =
     let s = slots_of c.args.self.now in
-    let there = found_there (λ x. x.now) s c.args.claim c.find.result c.find.ensures c.if-is-none.ensures in
+    let there = found_there (λ x. x.now) s c.args.claim c.find.result c.find.ensures c.if-is_none.ensures in
     let v = c.args.self.now.slots in
     omega (arith, some_within s c.args.claim.peg _ there, v.ok.0)
 
@@ -15,6 +15,6 @@ pub returns : goal.returns
 returns c =
     let s = slots_of c.args.self.now in
     let peg = c.args.claim.peg in
-    let there = found_there (λ x. x.now) s c.args.claim c.find.result c.find.ensures c.if-is-none.ensures in
-    let out = c.replace.ensures.value ∙ get_or_read s peg _ (some_within s peg _ there) c.index-mut.ensures.value None in
+    let there = found_there (λ x. x.now) s c.args.claim c.find.result c.find.ensures c.if-is_none.ensures in
+    let out = c.replace.ensures.value ∙ get_or_read s peg _ (some_within s peg _ there) c.index_mut.ensures.value None in
     took s c.args.claim c.replace.result c.replace.new.dest _ there (out ∙ there) c.replace.ensures.after
