@@ -1,4 +1,6 @@
 // Finds among 2,046 nodes: from the front, and by hash. Given the word `time`, it also says how long a find takes.
+#![tactic(auto)]
+
 ghost use Rattle.std.specs.Prelude.{◌≡◌, length};
 
 use diagrams::Node;

@@ -1,4 +1,6 @@
 // Row books: orders of one film, one to a line, in plain bytes.
+#![tactic(auto)]
+
 mod book;
 mod faults;
 mod names;

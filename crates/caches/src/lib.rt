@@ -1,4 +1,6 @@
 // Caches: what remembers answers to questions, and may forget them.
+#![tactic(auto)]
+
 ghost use Rattle.std.specs.Prelude.{◌≡◌, ℕ, ◌≤◌};
 ghost use Rattle.caches.specs.Recall.{Recalls, Told, Emptied};
 

@@ -1,5 +1,5 @@
 -- Two sheets of one chain are equal exactly when the sets are.
-use Rattle.std.proofs.Common.{◌≡◌, ℕ, zero, suc, ◌<◌, ◌≤◌, ◌↔◌, List, length, Ok, Err, Result, sym, refl, ap, ◌∙◌, ap₂, arith}
+use Rattle.std.proofs.Common.{◌≡◌, ℕ, zero, suc, ◌<◌, ◌≤◌, ◌↔◌, List, length, Ok, Err, sym, refl, ap, ◌∙◌, ap₂, arith}
 use lib.ListN.{length-map}
 use Rattle.orders.specs.Chains.{ChainLaws}
 use Rattle.lists.specs.declared.node_line.NodeLine.{NodeLine}
@@ -12,7 +12,6 @@ use Rattle.forms.specs.Theorems.{SameOrders}
 use Rattle.forms.proofs.Tracks.{marks_stand}
 use Rattle.forms.proofs.Unfolds.{form_set}
 use Rattle.forms.proofs.Sheets.{sheet_set}
-use Rattle.sheets.specs.declared.fault.Fault.{Fault}
 use Rattle.sheets.specs.declared.checking.Checked.{Checked}
 use Rattle.sheets.specs.Format.{sheet_bytes}
 use Rattle.sheets.specs.Checks.{Outcome, checked}

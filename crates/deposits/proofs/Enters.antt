@@ -1,5 +1,5 @@
 -- Entering lines, one after the other.
-use Rattle.std.proofs.Common.{◌≡◌, ℕ, zero, suc, ◌+◌, ◌-◌, ◌<◌, ◌≤◌, List, [], ◌∷◌, ◌++◌, length, get_or, Some, None, Ok, Err, Option, Result, sym, refl, ap, ◌∙◌, subst, ap₂, arith}
+use Rattle.std.proofs.Common.{◌≡◌, ℕ, zero, suc, ◌+◌, ◌-◌, ◌<◌, ◌≤◌, List, [], ◌∷◌, ◌++◌, length, get_or, Some, None, Ok, Err, Option, Result, sym, refl, ap, ◌∙◌, ap₂, arith}
 use Rattle.std.specs.List.{between}
 use Rattle.std.proofs.lemmas.Slice.{first_rest}
 use Rattle.std.proofs.lemmas.List.{nil_from_length}
@@ -17,7 +17,7 @@ use Rattle.sheets.specs.Checks.{checked}
 use Rattle.store.specs.declared.shapes.Handle.{Handle}
 use Rattle.store.specs.Views.{View, with_nodes}
 use Rattle.store.specs.Views as views
-use Rattle.store.specs.Steps.{Reply, After, found, declined, held, released, returned, left, adds, node_asked, handle_of, unless, worked, step}
+use Rattle.store.specs.Steps.{Reply, After, found, declined, held, released, returned, left, adds, node_asked, unless, worked, step}
 use Rattle.deposits.specs.Reading.{in_store, Entry, enters_by, enters, reads_by, reads}
 
 -- beyond the numbers stands 0

@@ -1,6 +1,5 @@
 -- The set that a sheet gave: the sheet is that set's own.
 use Rattle.std.proofs.Common.{◌≡◌, ℕ, zero, suc, ◌+◌, ◌<◌, ◌≤◌, Bool, true, false, eqb, ltb, List, [], ◌∷◌, ◌++◌, map, length, get_or, IfOk, Some, None, Ok, Err, Option, Result, sym, refl, ap, ◌∙◌, subst, ap₂, append_assoc, append-nil, arith, length-append, ltb-true, eqb-true}
-use borrow.Author.Tests.{eqb-false}
 use lib.ListN.{length-map, get_or-map}
 use lib.Seq.{get_or-append_seam}
 use Rattle.orders.specs.declared.refusal.Refusal.{Refusal}
@@ -12,11 +11,11 @@ use Rattle.diagrams.specs.Table.{at, Exists, Extends, Sound, x_of, y_of, lo_of, 
 use Rattle.diagrams.specs.Table as table
 use Rattle.diagrams.specs.Rules as rules
 use Rattle.diagrams.specs.Rules.{done, full, node, node_by, find, is_node, new_node, Asks, NodeSet, Made, Makes}
-use Rattle.diagrams.proofs.Pushes.{node_makes, is_node_same, first_here, pushed_length, pushed_last}
+use Rattle.diagrams.proofs.Pushes.{node_makes, is_node_same, first_here, pushed_last}
 use Rattle.forms.specs.Forms.{Form, none, one, branch, form}
 use Rattle.forms.specs.Visits.{blank, Sheet, sheet, read}
-use Rattle.forms.specs.Walks.{given, reached, line_of, sheet_of}
-use Rattle.forms.specs.Marks.{taken, Stands, Placed}
+use Rattle.forms.specs.Walks.{reached, line_of, sheet_of}
+use Rattle.forms.specs.Marks.{taken, Placed}
 use Rattle.forms.proofs.Unfolds.{form_zero, form_one, form_node}
 use Rattle.forms.proofs.Walks.{sheet_same}
 use Rattle.forms.proofs.Decodes.{read_sheet}
@@ -25,7 +24,6 @@ use Rattle.forms.proofs.Steps.{placing}
 use Rattle.forms.proofs.Placings.{placed_form, placed_sheet, placed_there}
 use Rattle.sheets.specs.declared.fault.Fault.{Fault}
 use Rattle.sheets.specs.declared.checking.Checked.{Checked}
-use Rattle.sheets.specs.Format.{sheet_bytes}
 use Rattle.sheets.specs.Checks.{tabled, checked}
 use Rattle.sheets.specs.Theorems.{Accepted}
 use Rattle.sheets.proofs.Entries.{tabled_length}
@@ -33,10 +31,10 @@ use Rattle.sheets.proofs.Accepts.{accepted}
 use Rattle.store.specs.declared.shapes.Handle.{Handle}
 use Rattle.store.specs.Views.{View, room_of, with_nodes}
 use Rattle.store.specs.Questions.{ask}
-use Rattle.store.specs.Steps.{node_asked, keeps_rules, handle_of}
+use Rattle.store.specs.Steps.{node_asked, keeps_rules}
 use Rattle.store.proofs.Added.{keeps_asks}
 use Rattle.deposits.specs.Writing.{sheet_text}
-use Rattle.deposits.specs.Reading.{in_store, Entry, enters_by, enters, rooted, reads_by, reads}
+use Rattle.deposits.specs.Reading.{Entry, enters_by, enters, rooted, reads_by, reads}
 use Rattle.deposits.proofs.Writings.{text_is}
 
 -- how many orders a form has

@@ -1,5 +1,5 @@
 -- What writing comes to, by the questions of the handle.
-use Rattle.std.proofs.Common.{◌≡◌, ℕ, List, IsErrAnd, Some, None, Ok, Err, Option, Result, sym, refl, ap, subst, arith}
+use Rattle.std.proofs.Common.{◌≡◌, ℕ, List, IsErrAnd, Some, None, Ok, Err, Option, Result, refl, ap, arith}
 use Rattle.orders.specs.declared.refusal.Refusal.{Refusal}
 use Rattle.lines.specs.Pages.{Put}
 use Rattle.diagrams.specs.declared.Node.{Node}
@@ -10,7 +10,7 @@ use Rattle.sheets.specs.Format.{sheet_bytes}
 use Rattle.store.specs.declared.shapes.Handle.{Handle}
 use Rattle.store.specs.Views.{View}
 use Rattle.store.specs.Questions.{answered, handle_asked}
-use Rattle.deposits.specs.Writing.{sheet_text, WritesIf, Writes}
+use Rattle.deposits.specs.Writing.{sheet_text, Writes}
 
 -- a question that got a no
 pub asked_no : {A : Type 0} (a : Option Refusal) (v : A) (e : Refusal) → Err e ≡ answered a v → a ≡ Some e

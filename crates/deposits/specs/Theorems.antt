@@ -1,9 +1,5 @@
 -- What two sheets that agree mean. Assumes nothing.
-use Rattle.std.specs.Prelude.{◌≡◌, ℕ, ◌<◌, ◌≤◌, ◌↔◌, List, length}
-use Rattle.orders.specs.Chains.{ChainLaws}
-use Rattle.diagrams.specs.declared.Node.{Node}
-use Rattle.diagrams.specs.Moves.{Moves}
-use Rattle.diagrams.specs.Table.{Exists, Sound}
+use Rattle.std.specs.Prelude.{◌≡◌, ℕ, ◌<◌, ◌≤◌, ◌↔◌, length}
 use Rattle.forms.specs.Theorems.{Across, SameOrders}
 use Rattle.deposits.specs.Writing.{sheet_text}
 

@@ -1,5 +1,5 @@
 -- The sheet of a set, and what writing it comes to. Assumes nothing.
-use Rattle.std.specs.Prelude.{◌≡◌, ℕ, List, Some, None, Ok, Err, Option, Result}
+use Rattle.std.specs.Prelude.{◌≡◌, ℕ, List, Some, None, Err, Option, Result}
 use Rattle.orders.specs.declared.refusal.Refusal.{Refusal}
 use Rattle.diagrams.specs.declared.Node.{Node}
 use Rattle.diagrams.specs.Table.{count_of}

@@ -1,4 +1,6 @@
 // Deposits: the sets of a store written as sheets, and sheets read into a store.
+#![tactic(auto)]
+
 mod reading;
 mod theorems;
 mod writing;

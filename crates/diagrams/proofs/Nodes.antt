@@ -2,7 +2,6 @@
 use Rattle.std.proofs.Common.{◌≡◌, ℕ, suc, ◌<◌, ◌≤◌, Bool, true, false, eqb, ltb, List, [], ◌∷◌, length, sym, refl, ap, ◌∙◌, ap₂, arith, ltb-false, ltb-true, le-ltb, lt-ltb, eq-eqb, ne_eqb, eqb-true}
 use borrow.Author.Tests.{eqb-false}
 use Rattle.diagrams.specs.declared.Node.{Node}
-use Rattle.diagrams.specs.Moves.{same}
 use Rattle.diagrams.specs.Table.{at, Extends}
 use Rattle.diagrams.specs.Rules.{Outcome, done, full, is_node, first_by, first, find, new_node, node_by, node}
 use Rattle.diagrams.proofs.Pushes.{pushed, pushed_length}

@@ -9,7 +9,7 @@ use Rattle.orders.specs.declared.order.Order.{Order}
 use Rattle.diagrams.specs.declared.Node.{Node}
 use Rattle.diagrams.specs.Moves.{Moves, back}
 use Rattle.diagrams.specs.Table.{blank, at, Extends, Sound, NodeOk, Same, mem}
-use Rattle.diagrams.specs.Rules.{full, is_node, first_by, first, find, new_node, node_by, node, Asks, NodeSet, Made, Makes}
+use Rattle.diagrams.specs.Rules.{is_node, first_by, first, find, new_node, node_by, node, Asks, NodeSet, Made, Makes}
 use Rattle.diagrams.proofs.Folds.{x_more, level_more, count_more, mem_node, mem_more, mem_zero}
 use Rattle.diagrams.proofs.Bools.{and_is}
 

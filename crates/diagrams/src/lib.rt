@@ -1,4 +1,6 @@
 // Diagrams: tables of nodes, the sets that their numbers stand for, and the rule of work.
+#![tactic(auto)]
+
 mod heights;
 mod theorems;
 

@@ -1,4 +1,6 @@
 // One engine for all kinds of work over a table of nodes and a cache: answered outright, or remembered, or worked and told.
+#![tactic(auto)]
+
 mod engine;
 mod found;
 mod outright;

@@ -1,5 +1,5 @@
 -- What the account says of each line. Assumes nothing.
-use Rattle.std.specs.Prelude.{◌≡◌, ℕ, ◌<◌, ◌≤◌, Bool, true, false, ◌⊎◌, List, [], ◌∷◌, ◌++◌, length, codes, decimal}
+use Rattle.std.specs.Prelude.{◌≡◌, ℕ, Bool, true, false, ◌⊎◌, List, [], ◌∷◌, ◌++◌, length, codes, decimal}
 use Rattle.orders.specs.Entries.{Writes}
 use Rattle.orders.specs.Dimension.{dimension}
 use Rattle.orders.specs.Tables.{swap, rotation}

@@ -1,4 +1,6 @@
 // Takes orders apart: reads rows from standard input, one a line, and prints the factors of each by swaps and by rotations.
+#![tactic(auto)]
+
 mod account;
 mod rows;
 mod text;

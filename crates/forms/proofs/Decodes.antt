@@ -1,10 +1,10 @@
 -- From a sheet one gets the form again. Assumes nothing.
-use Rattle.std.proofs.Common.{◌≡◌, ℕ, zero, suc, ◌+◌, ◌<◌, ◌≤◌, List, [], ◌∷◌, map, length, get_or, sym, refl, ap, ◌∙◌, ap₂, arith}
+use Rattle.std.proofs.Common.{◌≡◌, ℕ, zero, suc, ◌<◌, List, [], map, length, get_or, sym, refl, ap, ◌∙◌, ap₂, arith}
 use lib.ListN.{get_or-map}
 use Rattle.forms.specs.Forms.{Form, none, one, branch}
 use Rattle.lists.specs.declared.node_line.NodeLine.{NodeLine}
-use Rattle.forms.specs.Visits.{number, pick, visit, blank, line, Sheet, sheet_by, sheet, decode, read}
-use Rattle.forms.specs.Facts.{Known, Before, Visited, Visit}
+use Rattle.forms.specs.Visits.{number, pick, visit, blank, line, sheet, decode, read}
+use Rattle.forms.specs.Facts.{Before, Visited}
 use Rattle.forms.proofs.Visits.{pick_number, visit_stands, visit_knows}
 
 module _ (L : List Form) (V : Visited L) where

@@ -1,13 +1,13 @@
 -- A table whose nodes stand in the order of the visit from the last of them. Assumes nothing.
-use Rattle.std.proofs.Common.{◌≡◌, ℕ, zero, suc, ◌<◌, ◌≤◌, ◌↔◌, List, [], ◌∷◌, map, length, get_or, sym, refl, ap, ◌∙◌, subst, ap₂, arith}
+use Rattle.std.proofs.Common.{◌≡◌, ℕ, zero, suc, ◌<◌, ◌≤◌, ◌↔◌, List, map, length, get_or, sym, refl, ap, ◌∙◌, ap₂, arith}
 use native.Mathlib.Decide.{dec_lt}
 use lib.ListN
 use lib.ListN.{length-map}
 use Rattle.std.proofs.lemmas.List.{ext_get_or, get_or-map}
 use Rattle.lists.specs.declared.node_line.NodeLine.{NodeLine}
 use Rattle.diagrams.specs.declared.Node.{Node}
-use Rattle.diagrams.specs.Table.{blank, at, Exists, x_of, y_of, lo_of, hi_of, Sound, NodeOk}
-use Rattle.forms.specs.Forms.{Form, none, form}
+use Rattle.diagrams.specs.Table.{blank, at, Exists, x_of, y_of, lo_of, hi_of, Sound}
+use Rattle.forms.specs.Forms.{Form, form}
 use Rattle.forms.specs.Visits.{pick, visit, line, Sheet, sheet, decode}
 use Rattle.forms.specs.Visits as visits
 use Rattle.forms.specs.Walks.{given, reached, line_of, sheet_of, as_line}

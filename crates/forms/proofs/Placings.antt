@@ -1,12 +1,12 @@
 -- A table that has the lines of a sheet. Assumes nothing.
-use Rattle.std.proofs.Common.{◌≡◌, ℕ, zero, suc, ◌+◌, ◌<◌, ◌≤◌, List, [], length, get_or, sym, refl, ap, ◌∙◌, subst, ap₂, arith}
+use Rattle.std.proofs.Common.{◌≡◌, ℕ, zero, suc, ◌<◌, ◌≤◌, List, length, get_or, sym, ap, ◌∙◌, ap₂, arith}
 use Rattle.diagrams.specs.declared.Node.{Node}
-use Rattle.diagrams.specs.Table.{at, Exists, x_of, y_of, lo_of, hi_of, Sound, NodeOk}
-use Rattle.forms.specs.Forms.{Form, none, one, branch, form}
+use Rattle.diagrams.specs.Table.{Exists, x_of, y_of, lo_of, hi_of, Sound}
+use Rattle.forms.specs.Forms.{Form, branch, form}
 use Rattle.lists.specs.declared.node_line.NodeLine.{NodeLine}
 use Rattle.forms.specs.Visits.{blank, Sheet, sheet, decode, read}
 use Rattle.forms.specs.Walks.{sheet_of}
-use Rattle.forms.specs.Marks.{Stands, Placed}
+use Rattle.forms.specs.Marks.{Placed}
 use Rattle.forms.proofs.Unfolds.{form_zero, form_one, form_node}
 use Rattle.forms.proofs.Walks.{sheet_same}
 use Rattle.forms.proofs.Decodes.{read_sheet}

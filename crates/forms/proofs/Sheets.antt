@@ -1,17 +1,15 @@
 -- The sheet of a number. Assumes nothing.
-use Prim.{Unit, tt}
-use Rattle.std.proofs.Common.{◌≡◌, ℕ, zero, suc, ◌+◌, ◌<◌, ◌≤◌, ◌↔◌, List, [], ◌∷◌, map, length, get_or, sym, refl, ap, ◌∙◌, subst, ap₂, arith}
+use Rattle.std.proofs.Common.{◌≡◌, ℕ, zero, suc, ◌<◌, ◌≤◌, ◌↔◌, List, [], ◌∷◌, map, length, get_or, sym, refl, ap, ◌∙◌, subst, arith}
 use lib.ListN.{length-map, get_or-map}
 use Rattle.diagrams.specs.declared.Node.{Node}
-use Rattle.orders.specs.declared.order.Order.{Order}
 use Rattle.orders.specs.Chains.{ChainLaws}
 use Rattle.diagrams.specs.Moves.{Moves}
-use Rattle.diagrams.specs.Table.{at, Exists, Sound, NodeOk, Extends, lo_of, hi_of}
+use Rattle.diagrams.specs.Table.{at, Exists, Sound, Extends, lo_of, hi_of}
 use Rattle.diagrams.proofs.Folds.{fold_more}
 use Rattle.forms.specs.Forms.{Form, none, one, branch, at_branch, form}
-use Rattle.forms.specs.Visits.{number, visit, Sheet, sheet, read}
+use Rattle.forms.specs.Visits.{number, sheet, read}
 use Rattle.forms.specs.Walks.{given, walk, reached, sheet_of}
-use Rattle.forms.specs.Facts.{Known, Before, Visited, Within, Last, Visit, Reached}
+use Rattle.forms.specs.Facts.{Before, Within, Last, Visit, Reached}
 use Rattle.forms.specs.Theorems.{SameOrders, SheetOf}
 use Rattle.forms.proofs.Unfolds.{form_zero, form_one, form_node, form_set}
 use Rattle.forms.proofs.Walks.{Each, number_same, reached_each, reached_forms, sheet_same}

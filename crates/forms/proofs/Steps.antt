@@ -1,10 +1,10 @@
 -- A sheet is placed line by line. Assumes nothing.
-use Rattle.std.proofs.Common.{◌≡◌, ℕ, zero, suc, ◌+◌, ◌<◌, ◌≤◌, List, [], ◌∷◌, ◌++◌, length, get_or, sym, refl, ap, ◌∙◌, arith, length-append}
+use Rattle.std.proofs.Common.{◌≡◌, ℕ, zero, suc, ◌<◌, List, [], ◌∷◌, ◌++◌, length, get_or, sym, refl, ap, ◌∙◌, arith, length-append}
 use native.Mathlib.Decide.{dec_lt}
 use lib.ListN.{get_or-append}
 use lib.Seq.{get_or-append_seam}
 use Rattle.diagrams.specs.declared.Node.{Node}
-use Rattle.diagrams.specs.Table.{at, Exists, Extends, x_of, y_of, lo_of, hi_of}
+use Rattle.diagrams.specs.Table.{Exists, Extends, lo_of, hi_of}
 use Rattle.diagrams.proofs.Folds.{x_more, y_more}
 use Rattle.lists.specs.declared.node_line.NodeLine.{NodeLine}
 use Rattle.forms.specs.Visits.{blank}

@@ -1,13 +1,11 @@
 -- The nodes of a sheet are a sound table. Assumes nothing.
-use Rattle.std.proofs.Common.{◌≡◌, ℕ, zero, suc, ◌+◌, ◌<◌, ◌≤◌, eqb, ◌⊎◌, List, [], ◌∷◌, map, length, get_or, sym, refl, ap, ◌∙◌, subst, ap₂, inl, inr, le_refl, arith, eqb-true}
+use Rattle.std.proofs.Common.{◌≡◌, ℕ, zero, suc, ◌<◌, ◌≤◌, eqb, ◌⊎◌, List, [], ◌∷◌, map, length, get_or, sym, refl, ap, ◌∙◌, inl, inr, le_refl, arith, eqb-true}
 use lib.ListN.{length-map, get_or-map}
 use Rattle.diagrams.specs.declared.Node.{Node}
 use Rattle.diagrams.specs.Level.{level}
-use Rattle.diagrams.specs.Rules.{first}
 use Rattle.diagrams.specs.Table.{blank, at, Exists, x_of, y_of, lo_of, hi_of, level_of, count_of, NodeOk, Same, Sound}
 use Rattle.diagrams.proofs.Pushes.{first_here}
 use Rattle.forms.specs.Forms.{Form, none, one, branch, form, top_x, top_y, Fits, Well}
-use Rattle.lists.specs.declared.node_line.NodeLine.{NodeLine}
 use Rattle.forms.specs.Visits.{Sheet, sheet, read}
 use Rattle.forms.specs.Visits as visits
 use Rattle.forms.specs.Walks.{place_in, given, reached, line_of, sheet_of, node_of, table_of, as_line}

@@ -1,5 +1,5 @@
 -- Marks made node by node are the numbers of the visit. Assumes nothing.
-use Prim.{Unit, tt}
+use Prim.{tt}
 use Rattle.std.proofs.Common.{◌≡◌, ℕ, zero, suc, ◌+◌, ◌<◌, ◌≤◌, Bool, true, false, eqb, ltb, ◌⊎◌, List, [], ◌∷◌, ◌++◌, map, length, get_or, set, replicate, sym, refl, ap, ◌∙◌, subst, ap₂, inl, inr, arith, length-append, length-set, ltb-false, ltb-true, eq-eqb, eqb-true}
 use native.Mathlib.Decide.{dec_lt}
 use lib.ListN.{length-map, length-replicate, get_or-replicate}
@@ -7,13 +7,11 @@ use Rattle.std.proofs.lemmas.List.{get_or-set_same, get_or-set_other, ext_get_or
 use borrow.Author.Tests.{eqb-false}
 use Rattle.diagrams.specs.declared.Node.{Node}
 use Rattle.diagrams.specs.Rules.{first}
-use Rattle.diagrams.specs.Table.{at, Exists, x_of, y_of, lo_of, hi_of, Sound, NodeOk}
+use Rattle.diagrams.specs.Table.{at, Exists, x_of, y_of, lo_of, hi_of, Sound}
 use Rattle.diagrams.proofs.Numbers.{parts}
-use Rattle.lists.specs.declared.node_line.NodeLine.{NodeLine}
-use Rattle.forms.specs.Forms.{Form, branch, form}
+use Rattle.forms.specs.Forms.{branch, form}
 use Rattle.forms.specs.Visits.{blank, place, add_by, visit}
 use Rattle.forms.specs.Walks.{place_in, given, walk, reached, line_of, sheet_of}
-use Rattle.forms.specs.Facts.{Reached}
 use Rattle.forms.specs.Marks.{taken, Marks, zeros, unmarked, line_by, give, mark_by, mark, Marked}
 use Rattle.forms.proofs.Firsts.{first_append, first_new, first_last}
 use Rattle.forms.proofs.Unfolds.{form_node}

@@ -1,15 +1,15 @@
 -- The form of a number: by its parts, its set, and one number to a form. Assumes nothing.
-use Prim.{Unit, tt}
-use Rattle.std.proofs.Common.{◌≡◌, ℕ, zero, suc, ◌+◌, ◌<◌, ◌≤◌, Bool, true, false, ◌||◌, ◌⊎◌, ◌↔◌, List, length, sym, refl, ap, ◌∙◌, ap₂, inl, inr, arith}
+use Prim.{tt}
+use Rattle.std.proofs.Common.{◌≡◌, ℕ, zero, suc, ◌<◌, ◌≤◌, ◌||◌, ◌↔◌, List, length, sym, refl, ap, ◌∙◌, ap₂, arith}
 use Rattle.diagrams.specs.declared.Node.{Node}
 use Rattle.orders.specs.declared.order.Order.{Order}
 use Rattle.orders.specs.Chains.{ChainLaws}
 use Rattle.diagrams.specs.Moves.{Moves, back}
-use Rattle.diagrams.specs.Table.{at, Exists, x_of, y_of, fold, Sound, NodeOk, mem}
+use Rattle.diagrams.specs.Table.{at, Exists, x_of, y_of, fold, Sound, mem}
 use Rattle.diagrams.proofs.Folds.{fold_deep, mem_zero, mem_one, mem_node}
 use Rattle.diagrams.proofs.Bools.{both_ways}
 use Rattle.diagrams.proofs.Numbers.{top_below}
-use Rattle.forms.specs.Forms.{Form, none, one, branch, at_branch, form, top_x, top_y, Some, Fits, Well, has}
+use Rattle.forms.specs.Forms.{Form, none, one, branch, at_branch, form, top_x, top_y, Some, Well, has}
 use Rattle.forms.specs.Theorems.{SameOrders}
 use Rattle.forms.proofs.Shapes.{canon}
 

@@ -1,15 +1,15 @@
 -- The visit over a table's numbers is the visit of the form. Assumes nothing.
 use Prim.{Unit, tt}
-use Rattle.std.proofs.Common.{◌≡◌, ℕ, zero, suc, ◌+◌, ◌<◌, ◌≤◌, Bool, true, false, eqb, ltb, List, [], ◌∷◌, ◌++◌, map, length, sym, refl, ap, ◌∙◌, ap₂, arith, eq-eqb, eqb-true}
+use Rattle.std.proofs.Common.{◌≡◌, ℕ, zero, suc, ◌<◌, Bool, true, false, eqb, ltb, List, [], ◌∷◌, ◌++◌, map, length, sym, refl, ap, ◌∙◌, ap₂, arith, eq-eqb, eqb-true}
 use mathlib.Core.List.{map-append}
 use lib.ListN.{length-map}
 use Rattle.diagrams.specs.declared.Node.{Node}
 use Rattle.diagrams.specs.Rules.{first_by, first}
-use Rattle.diagrams.specs.Table.{at, Exists, x_of, y_of, lo_of, hi_of, Sound, NodeOk}
+use Rattle.diagrams.specs.Table.{at, Exists, x_of, y_of, lo_of, hi_of, Sound}
 use Rattle.diagrams.proofs.Bools.{both_ways}
-use Rattle.forms.specs.Forms.{Form, none, one, branch, form}
+use Rattle.forms.specs.Forms.{Form, form}
 use Rattle.lists.specs.declared.node_line.NodeLine.{NodeLine}
-use Rattle.forms.specs.Visits.{same, place, number, add_by, visit, line, Sheet, sheet_by, sheet}
+use Rattle.forms.specs.Visits.{same, place, number, add_by, visit, line, sheet_by, sheet}
 use Rattle.forms.specs.Walks.{place_in, given, walk, reached, line_of, sheet_of}
 use Rattle.forms.proofs.Sames.{same_self, same_tells}
 use Rattle.forms.proofs.Unfolds.{form_zero, form_one, form_node, form_tells}

@@ -1,6 +1,6 @@
 -- The form of a number: its diagram, unfolded. Assumes nothing.
 use Prim.{Unit}
-use Rattle.std.specs.Prelude.{◌≡◌, ℕ, zero, suc, ◌<◌, ◌≤◌, Bool, false, ◌||◌, ◌⊎◌, List}
+use Rattle.std.specs.Prelude.{◌≡◌, ℕ, suc, ◌<◌, ◌≤◌, Bool, false, ◌||◌, ◌⊎◌, List}
 use Rattle.diagrams.specs.declared.Node.{Node}
 use Rattle.orders.specs.declared.order.Order.{Order}
 use Rattle.diagrams.specs.Moves.{Moves, back}

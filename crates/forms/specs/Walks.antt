@@ -1,5 +1,5 @@
 -- The same visit over the numbers of a table. Assumes nothing.
-use Rattle.std.specs.Prelude.{ℕ, zero, suc, Bool, List, [], map, length, nat_eq, nat_lt}
+use Rattle.std.specs.Prelude.{ℕ, zero, suc, List, [], map, length, nat_eq, nat_lt}
 use Rattle.diagrams.specs.declared.Node.{Node}
 use Rattle.diagrams.specs.Rules.{first}
 use Rattle.diagrams.specs.Table.{at, x_of, y_of, lo_of, hi_of, count_of}

@@ -1,5 +1,7 @@
 // Forms: what a diagram is apart from its numbers, and the sheet that is written of it. Each function below has a theorem, in words of
 // orders, nodes and lines, and so asks for its proof.
+#![tactic(auto)]
+
 ghost use Rattle.forms.specs.Theorems.{FormStands, SheetStands, SheetFormStands, VisitStands, MarksStand, ReadStands, TableStands, OwnStands, PlacingStands, ExampleStands};
 
 // One set, one form: two numbers of one table or of two have the same unfolded diagram exactly when they stand for the same orders.

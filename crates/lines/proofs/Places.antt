@@ -1,5 +1,5 @@
 -- A row of numbers and the same row as places. Assumes nothing.
-use Rattle.std.proofs.Common.{◌≡◌, ℕ, suc, ◌<◌, ◌≤◌, true, false, cond, ltb, List, length, get_or, take, sym, refl, ap, ◌∙◌, subst, arith, length-take-le, get_or-take, le-ltb, lt-ltb}
+use Rattle.std.proofs.Common.{◌≡◌, ℕ, ◌<◌, ◌≤◌, List, length, get_or, sym, ◌∙◌, subst, arith, length-take-le, get_or-take, le-ltb, lt-ltb}
 use native.Mathlib.Decide.{dec_lt}
 use Rattle.orders.specs.Entries.{Writes, Refused}
 use Rattle.orders.specs.declared.order.Order.{Order}

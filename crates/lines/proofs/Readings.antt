@@ -1,5 +1,5 @@
 -- What is read off a text is what would be written. Assumes nothing.
-use Rattle.std.proofs.Common.{◌≡◌, ℕ, zero, suc, ◌+◌, ◌^◌, ◌<◌, ◌≤◌, Bool, true, false, ◌&&◌, eqb, ltb, List, [], ◌∷◌, ◌++◌, map, length, Some, None, decimal, Option, sym, refl, ap, ◌∙◌, subst, ap₂, true≢false, append-nil, arith, length-take-le, Bor, ltb-true, lt-ltb, eq-eqb, ne_eqb, eqb-true, MatchOption}
+use Rattle.std.proofs.Common.{◌≡◌, ℕ, ◌^◌, ◌<◌, ◌≤◌, Bool, true, false, ◌&&◌, eqb, ltb, List, [], ◌∷◌, ◌++◌, map, length, Some, None, decimal, Option, sym, refl, ap, ◌∙◌, subst, ap₂, true≢false, append-nil, arith, length-take-le, Bor, ltb-true, lt-ltb, ne_eqb, eqb-true, MatchOption}
 use borrow.Author.Tests.{eqb-false}
 use lib.ListN.{length-map}
 use Rattle.std.specs.Option.{option_map}

@@ -1,5 +1,7 @@
 // Lines of numbers in base ten, as sheets, books and programs have them: no leading zeros, at most 14 digits, one blank
 // between two numbers.
+#![tactic(auto)]
+
 mod numbers;
 mod reads;
 mod rows;

@@ -1,4 +1,6 @@
 // Lists that fill memory lent to them.
+#![tactic(auto)]
+
 mod exact;
 mod filled;
 mod node_line;

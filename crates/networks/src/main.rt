@@ -1,4 +1,6 @@
 // Networks of exchanges: the orders of n pieces that come of k exchanges of neighbouring places, until nothing new comes.
+#![tactic(auto)]
+
 mod growth;
 mod report;
 

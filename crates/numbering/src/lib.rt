@@ -1,4 +1,6 @@
 // The orders of a set, numbered: how many there are, the order of a number, and the number of an order.
+#![tactic(auto)]
+
 mod reading;
 mod theorems;
 

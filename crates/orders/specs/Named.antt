@@ -1,6 +1,6 @@
 -- Orders named by their rows, so that examples can be computed. Assumes nothing.
-use Rattle.std.specs.Prelude.{◌≡◌, ℕ, zero, suc, ◌-◌, ◌<◌, ◌≤◌, Bool, true, false, not, ◌&&◌, ◌||◌, List, ◌==◌, nat_le, slice_index_or, refl}
-use Rattle.std.proofs.Common.{subst, sym, not-suc-le-zero, arith, eqb-true, leb-true, eq-eqb}
+use Rattle.std.specs.Prelude.{◌≡◌, ℕ, zero, suc, ◌-◌, ◌≤◌, Bool, true, false, not, ◌&&◌, ◌||◌, List, ◌==◌, nat_le, slice_index_or, refl}
+use Rattle.std.proofs.Common.{subst, sym, arith, eqb-true, leb-true, eq-eqb}
 use Rattle.std.proofs.Math.Decide.{ℕ_discrete}
 use Rattle.std.proofs.lemmas.Bool.{false≢true}
 use Rattle.orders.specs.Orders.{Spreads, sending, standing}

@@ -1,4 +1,6 @@
 // Orders of a film of sixteen pieces.
+#![tactic(auto)]
+
 mod chain;
 mod factoring;
 mod laws;

@@ -1,3 +1,5 @@
+#![tactic(auto)]
+
 // Orders, chains and lines of numbers, run on examples.
 #[cfg(test)]
 mod examples {

@@ -1,3 +1,5 @@
+#![tactic(auto)]
+
 // Caches and lists at work: what their callers know, and examples that are run.
 #[cfg(test)]
 mod cache_tests;

@@ -1,5 +1,5 @@
 -- A sheet that was written is accepted. Assumes nothing.
-use Rattle.std.proofs.Common.{◌≡◌, ℕ, zero, suc, ◌+◌, ◌^◌, ◌<◌, ◌≤◌, Bool, true, false, not, ◌&&◌, eqb, ltb, List, [], ◌∷◌, ◌++◌, map, length, get_or, Ok, Err, Result, sym, refl, ap, ◌∙◌, subst, ap₂, append_assoc, append-nil, arith, length-append, le-ltb, lt-ltb, eq-eqb, eqb-true}
+use Rattle.std.proofs.Common.{◌≡◌, ℕ, zero, suc, ◌+◌, ◌^◌, ◌<◌, ◌≤◌, Bool, true, not, ◌&&◌, eqb, List, [], ◌∷◌, ◌++◌, map, length, get_or, Ok, Result, sym, refl, ap, ◌∙◌, subst, ap₂, append_assoc, append-nil, arith, length-append, le-ltb, lt-ltb, eq-eqb, eqb-true}
 use native.Mathlib.Decide.{dec_lt}
 use lib.ListN.{length-map, get_or-append}
 use lib.Seq.{get_or-append_seam}
@@ -10,7 +10,7 @@ use Rattle.lines.specs.Reading.{cut}
 use Rattle.diagrams.specs.declared.Node.{Node}
 use Rattle.diagrams.specs.Level.{level}
 use Rattle.diagrams.specs.Table.{blank, at, Exists, Sound, NodeOk, Same, Extends, x_of, level_of, count_of}
-use Rattle.diagrams.specs.Rules.{is_node, first, new_node, find}
+use Rattle.diagrams.specs.Rules.{is_node, new_node, find}
 use Rattle.diagrams.proofs.Bools.{and_is}
 use Rattle.diagrams.proofs.Bounds.{count_max}
 use Rattle.diagrams.proofs.Folds.{x_more, level_more, count_more}
@@ -18,7 +18,6 @@ use Rattle.diagrams.proofs.Numbers.{count_small}
 use Rattle.diagrams.proofs.Pushes.{first_here}
 use Rattle.forms.specs.Facts.{Reached}
 use Rattle.forms.specs.Theorems.{TableOf, Own}
-use Rattle.forms.specs.Visits.{Sheet}
 use Rattle.forms.specs.Walks.{given, reached, sheet_of, node_of, table_of, as_line}
 use Rattle.forms.proofs.Owns.{owns}
 use Rattle.forms.proofs.Sheets.{reached_stands}
@@ -28,11 +27,11 @@ use Rattle.sheets.specs.declared.checking.Checked.{Checked}
 use Rattle.sheets.specs.Faults.{bad_node}
 use Rattle.sheets.specs.Format.{head, node_names, node_values, node_lines, sheet_bytes}
 use Rattle.sheets.specs.Lines.{ask, after, values}
-use Rattle.sheets.specs.Checks.{Top, top, grown, tabled_on, tabled, paired, earlier, placed, keeps, row_by, row, Outcome, rows_by, rows, marks_of, off_by, off, root_of, counts, finish, checked}
+use Rattle.sheets.specs.Checks.{top, grown, tabled_on, tabled, keeps, row_by, row, Outcome, rows_by, rows, marks_of, off_by, off, finish, checked}
 use Rattle.sheets.proofs.Fronts.{names_ok, values_ok}
 use Rattle.sheets.proofs.Tops.{top_ok}
-use Rattle.sheets.proofs.Entries.{tabled_push, tabled_length}
-use Rattle.sheets.proofs.Endings.{finish_ok, checked_end, tabled_none}
+use Rattle.sheets.proofs.Entries.{tabled_push}
+use Rattle.sheets.proofs.Endings.{finish_ok, checked_end}
 
 -- the first node of those that are left, after A
 module _ (A : List Node) (b : Node) (B : List Node) (S : Sound (A ++ (b ∷ B))) where

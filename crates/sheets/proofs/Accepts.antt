@@ -5,18 +5,15 @@ use mathlib.Core.List.{map-append}
 use native.Mathlib.Decide.{dec_lt}
 use Rattle.std.specs.Str.{bytes_eq}
 use Rattle.std.proofs.lemmas.Slice.Eq.{bytes_eq-Decides}
-use Rattle.std.proofs.lemmas.List.{take-append-drop, nil_from_length}
+use Rattle.std.proofs.lemmas.List.{take-append-drop}
 use Rattle.lists.specs.declared.node_line.NodeLine.{NodeLine}
 use Rattle.lines.specs.Format.{written, line, Values}
 use Rattle.lines.specs.Reading.{cut, numbers}
-use Rattle.lines.proofs.Readings.{Cuts, cut_is, Read, numbers_read}
+use Rattle.lines.proofs.Readings.{Cuts, cut_is, numbers_read}
 use Rattle.diagrams.specs.declared.Node.{Node}
-use Rattle.diagrams.specs.Table.{blank, at, Exists, Sound, NodeOk, Same, count_of, x_of, y_of, lo_of, hi_of}
-use Rattle.diagrams.specs.Rules.{is_node, new_node, find}
+use Rattle.diagrams.specs.Table.{blank, at, Exists, Sound, Same, count_of}
+use Rattle.diagrams.specs.Rules.{is_node, new_node}
 use Rattle.diagrams.proofs.Pushes.{push_sound, first_none}
-use Rattle.diagrams.proofs.Numbers.{count_small}
-use Rattle.forms.specs.Marks.{unmarked, mark}
-use Rattle.forms.specs.Visits.{Sheet}
 use Rattle.forms.specs.Walks.{walk, reached, sheet_of, as_line}
 use Rattle.forms.proofs.Owns.{owns}
 use Rattle.sheets.specs.declared.fault.Fault.{Fault}

@@ -1,5 +1,5 @@
 -- What comes after the last node line. Assumes nothing.
-use Rattle.std.proofs.Common.{◌≡◌, ℕ, zero, suc, ◌+◌, ◌-◌, ◌<◌, ◌≤◌, Bool, true, false, not, eqb, ltb, List, [], ◌∷◌, length, get_or, IsErrAnd, Ok, Err, Result, sym, refl, ap, ◌∙◌, subst, ap₂, arith, le-ltb, lt-ltb, eq-eqb, ne_eqb}
+use Rattle.std.proofs.Common.{◌≡◌, ℕ, suc, ◌+◌, ◌-◌, ◌<◌, ◌≤◌, true, false, not, eqb, ltb, List, [], ◌∷◌, length, get_or, IsErrAnd, Ok, Err, Result, sym, refl, ap, ◌∙◌, ap₂, arith, le-ltb, lt-ltb, eq-eqb, ne_eqb}
 use Rattle.std.proofs.lemmas.List.{nil_from_length}
 use Rattle.lists.specs.declared.node_line.NodeLine.{NodeLine}
 use Rattle.diagrams.specs.declared.Node.{Node}
@@ -9,7 +9,7 @@ use Rattle.sheets.specs.declared.fault.Fault.{Fault}
 use Rattle.sheets.specs.declared.checking.Checked.{Checked}
 use Rattle.sheets.specs.Faults.{bad_line, misnumbered, wrong_count}
 use Rattle.sheets.specs.Lines.{ask, after}
-use Rattle.sheets.specs.Checks.{Top, top, tabled, Outcome, rows, marks_of, off_by, off, root_of, counts, ends, finish, checked_rows, checked_top, checked}
+use Rattle.sheets.specs.Checks.{Top, top, tabled, rows, marks_of, off_by, off, root_of, counts, ends, finish, checked_top, checked}
 use Rattle.sheets.proofs.Tops.{asked_yes, asked_no}
 
 -- a mark that is its own number is passed by

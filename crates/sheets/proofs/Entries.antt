@@ -1,5 +1,5 @@
 -- Node lines, one after the other. Assumes nothing.
-use Rattle.std.proofs.Common.{◌≡◌, ℕ, zero, suc, ◌+◌, ◌-◌, ◌<◌, ◌≤◌, Bool, true, false, not, ◌&&◌, eqb, ltb, List, [], ◌∷◌, ◌++◌, length, IsErrAnd, Ok, Err, Result, sym, refl, ap, ◌∙◌, subst, ap₂, true≢false, arith, length-append, length-set, Bor, ltb-false, ltb-true, le-ltb, lt-ltb, ne_eqb}
+use Rattle.std.proofs.Common.{◌≡◌, ℕ, suc, ◌+◌, ◌-◌, ◌<◌, ◌≤◌, Bool, true, false, not, ◌&&◌, eqb, ltb, List, [], ◌∷◌, ◌++◌, length, IsErrAnd, Ok, Err, Result, sym, refl, ap, ◌∙◌, subst, true≢false, arith, length-append, length-set, Bor, ltb-false, ltb-true, le-ltb, lt-ltb, ne_eqb}
 use Rattle.orders.specs.declared.refusal.Refusal.{Refusal}
 use Rattle.lists.specs.declared.node_line.NodeLine.{NodeLine}
 use Rattle.lists.specs.declared.filled.Filled.{Filled}
@@ -12,7 +12,7 @@ use Rattle.tables.specs.Rows.{Makes}
 use Rattle.sheets.specs.declared.fault.Fault.{Fault}
 use Rattle.sheets.specs.Faults.{bad_node}
 use Rattle.sheets.specs.Lines.{ask, after, values}
-use Rattle.sheets.specs.Checks.{grown, tabled_on, tabled, paired, earlier, Askable, placed, keeps, line_from, row_by, row, Outcome, rows_by, rows}
+use Rattle.sheets.specs.Checks.{grown, tabled_on, tabled, paired, earlier, placed, keeps, line_from, row_by, row, Outcome, rows_by, rows}
 use Rattle.sheets.specs.Gives.{Gives}
 use Rattle.sheets.proofs.Keeps.{and_both, askable}
 

@@ -1,5 +1,5 @@
 -- The lines of a set, listed one after the other. Assumes nothing.
-use Rattle.std.proofs.Common.{◌≡◌, ℕ, zero, suc, ◌+◌, ◌<◌, ◌≤◌, List, [], ◌∷◌, ◌++◌, map, length, get_or, take, Result, sym, refl, ap, ◌∙◌, subst, ap₂, arith, length-take-le, get_or-take}
+use Rattle.std.proofs.Common.{◌≡◌, ℕ, ◌+◌, ◌<◌, ◌≤◌, List, [], ◌∷◌, ◌++◌, map, length, get_or, take, Result, sym, refl, ap, ◌∙◌, subst, ap₂, arith, length-take-le, get_or-take}
 use lib.ListN.{length-map}
 use Rattle.std.proofs.lemmas.List.{map_more}
 use Rattle.orders.specs.declared.refusal.Refusal.{Refusal}
@@ -8,7 +8,6 @@ use Rattle.lists.specs.declared.node_line.NodeLine.{NodeLine}
 use Rattle.lists.specs.Items.{items_of, room_of, Added}
 use Rattle.diagrams.specs.declared.Node.{Node}
 use Rattle.diagrams.specs.Table.{Exists, Sound}
-use Rattle.forms.specs.Facts.{Reached}
 use Rattle.forms.specs.Marks.{line_by, Marked}
 use Rattle.forms.specs.Walks.{reached, sheet_of}
 use Rattle.forms.proofs.Sheets.{reached_stands}

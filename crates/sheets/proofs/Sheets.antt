@@ -1,12 +1,12 @@
 -- A sheet on a page. Assumes nothing.
-use Rattle.std.proofs.Common.{◌≡◌, ℕ, suc, ◌+◌, ◌-◌, ◌*◌, ◌<◌, ◌≤◌, List, [], ◌∷◌, ◌++◌, length, get_or, sym, refl, ap, ◌∙◌, subst, ap₂, append_assoc, arith, length-append}
+use Rattle.std.proofs.Common.{◌≡◌, ℕ, ◌+◌, ◌<◌, ◌≤◌, List, [], ◌∷◌, ◌++◌, length, get_or, sym, ap, ◌∙◌, append_assoc, arith, length-append}
 use Rattle.std.specs.List.{between}
 use Rattle.std.proofs.lemmas.Slice.{first_rest}
 use Rattle.std.proofs.lemmas.List.{nil_from_length}
 use Rattle.lists.specs.declared.node_line.NodeLine.{NodeLine}
 use Rattle.lines.specs.Format.{line}
 use Rattle.lines.specs.Pages.{put}
-use Rattle.lines.proofs.Pages.{put_then, put_none}
+use Rattle.lines.proofs.Pages.{put_then}
 use Rattle.forms.specs.Visits.{blank}
 use Rattle.sheets.specs.Format.{head, node_names, node_values, node_lines, sheet_bytes}
 

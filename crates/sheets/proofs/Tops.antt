@@ -1,5 +1,5 @@
 -- Lines 1 to 3 of a sheet, question by question. Assumes nothing.
-use Rattle.std.proofs.Common.{◌≡◌, ℕ, ◌<◌, ◌≤◌, Bool, true, false, eqb, ltb, List, length, get_or, IsErrAnd, Some, None, Ok, Err, Option, Result, sym, refl, ap, ◌∙◌, subst, ap₂, arith, length-take-le, get_or-take, le-ltb, lt-ltb, eq-eqb, ne_eqb, eqb-true, MatchResult}
+use Rattle.std.proofs.Common.{◌≡◌, ℕ, ◌<◌, ◌≤◌, Bool, true, false, eqb, List, length, get_or, IsErrAnd, Some, None, Ok, Err, Option, Result, sym, refl, ap, ◌∙◌, subst, arith, length-take-le, get_or-take, le-ltb, lt-ltb, eq-eqb, ne_eqb, eqb-true, MatchResult}
 use Rattle.lines.specs.declared.numbers.Fields.{Fields}
 use Rattle.lines.specs.Held.{held, Fits}
 use Rattle.lines.specs.Reading.{cut, numbers}

@@ -1,9 +1,8 @@
 -- What the check of a sheet means. Assumes nothing.
-use Rattle.std.specs.Prelude.{◌≡◌, ℕ, ◌+◌, ◌<◌, ◌≤◌, List, length, Ok}
+use Rattle.std.specs.Prelude.{◌≡◌, ℕ, ◌<◌, ◌≤◌, List, length, Ok}
 use Rattle.lists.specs.declared.node_line.NodeLine.{NodeLine}
 use Rattle.diagrams.specs.declared.Node.{Node}
 use Rattle.diagrams.specs.Table.{Exists, Sound, x_of, count_of}
-use Rattle.forms.specs.Visits.{Sheet}
 use Rattle.forms.specs.Walks.{sheet_of}
 use Rattle.sheets.specs.declared.checking.Checked.{Checked}
 use Rattle.sheets.specs.Format.{sheet_bytes}

@@ -1,4 +1,6 @@
 // Sheets: a set of orders as two tables of numbers in plain bytes.
+#![tactic(auto)]
+
 mod checking;
 mod fault;
 mod listing;

@@ -1,5 +1,5 @@
 -- A node that is found or added by its four values. Assumes nothing.
-use Rattle.std.proofs.Common.{◌≡◌, ℕ, suc, ◌^◌, ◌<◌, ◌≤◌, Bool, true, false, ◌&&◌, ltb, leb, List, length, Some, None, Ok, Err, Result, sym, refl, ap, ◌∙◌, subst, arith}
+use Rattle.std.proofs.Common.{◌≡◌, ℕ, ◌<◌, ◌≤◌, Bool, true, false, ◌&&◌, ltb, List, Ok, Err, Result, sym, refl, ap, ◌∙◌, subst, arith}
 use Rattle.std.proofs.lemmas.Bool.Decides.{nat_tests}
 use Rattle.orders.specs.declared.order.Order.{Order}
 use Rattle.orders.specs.declared.refusal.Refusal.{Refusal}
@@ -12,8 +12,8 @@ use Rattle.diagrams.specs.Rules.{Outcome, done, full, node, Asks, NodeSet}
 use Rattle.diagrams.specs.Rules as rules
 use Rattle.diagrams.proofs.Pushes.{node_makes}
 use Rattle.tables.specs.Rows.{Makes}
-use Rattle.store.specs.Views.{View, room_of, with_nodes}
-use Rattle.store.specs.Steps.{After, found, declined, adds, handle_of, worked, unless, step, node_asked, keeps_rules}
+use Rattle.store.specs.Views.{View, room_of}
+use Rattle.store.specs.Steps.{declined, adds, worked, step, node_asked, keeps_rules}
 
 module _ (w : View) (x y lo hi : ℕ) where
   -- the tests of the code, one after the other

@@ -1,5 +1,5 @@
 -- A hold that was given is the store's until it is released. Assumes nothing.
-use Rattle.std.proofs.Common.{◌≡◌, ℕ, zero, suc, ◌<◌, Bool, true, false, ◌&&◌, eqb, ltb, List, [], ◌∷◌, length, get_or, set, Some, None, Ok, Err, Option, Result, sym, refl, ap, ◌∙◌, subst, arith, get_or-set_same}
+use Rattle.std.proofs.Common.{◌≡◌, ℕ, ◌<◌, Bool, true, false, ◌&&◌, eqb, ltb, length, get_or, set, Some, None, Ok, Option, sym, refl, ap, ◌∙◌, subst, arith, get_or-set_same}
 use Rattle.std.proofs.lemmas.Bool.Decides.{nat_tests}
 use Rattle.orders.specs.declared.refusal.Refusal.{Refusal}
 use Rattle.diagrams.specs.Moves.{Moves}
@@ -7,9 +7,9 @@ use Rattle.store.specs.declared.hold.Hold.{Hold}
 use Rattle.store.specs.declared.shapes.Handle.{Handle}
 use Rattle.store.specs.Views.{View, with_pegs}
 use Rattle.store.specs.Questions.{or_else, on_peg, handle_asked, peg_asked, held_on}
-use Rattle.store.specs.Steps.{After, Reply, found, declined, held, released, returned, left, holds, releases, sweep, unless, released_by, season_asked, swept_view, step}
+use Rattle.store.specs.Steps.{After, held, left, unless, released_by, season_asked, swept_view}
 use Rattle.store.specs.Holding.{Holds, HoldsStand}
-use Rattle.store.proofs.Racks.{peg_fine, held_some, held_fine}
+use Rattle.store.proofs.Racks.{peg_fine, held_some}
 use Rattle.store.proofs.Sweeps.{pegs_on}
 
 -- the parts of a hold that the store has

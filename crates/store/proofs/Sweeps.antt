@@ -1,17 +1,15 @@
 -- Pegs and holds over a sweep. Assumes nothing.
-use Rattle.std.proofs.Common.{◌≡◌, ℕ, zero, suc, ◌+◌, ◌<◌, ◌≤◌, Bool, true, false, ◌&&◌, eqb, ltb, List, [], ◌∷◌, map, length, get_or, set, Some, None, Ok, Err, Option, Result, sym, refl, ap, ◌∙◌, arith}
+use Rattle.std.proofs.Common.{◌≡◌, ℕ, zero, suc, ◌<◌, true, false, ltb, List, [], ◌∷◌, map, length, get_or, Some, None, refl, ap, arith}
 use Rattle.std.proofs.lemmas.Bool.Decides.{nat_tests}
-use Rattle.orders.specs.declared.refusal.Refusal.{Refusal}
 use Rattle.orders.specs.declared.refusal.Refusal.TheVariants.{LastSeason}
 use Rattle.diagrams.specs.declared.Node.{Node}
 use Rattle.diagrams.specs.Moves.{Moves}
 use Rattle.diagrams.specs.Table.{Sound}
 use Rattle.sweeps.specs.Reaching.{Pegs as Pegged, held}
 use Rattle.sweeps.specs.Sweeping.{on_peg, swept, renumbered, pegs_after}
-use Rattle.sweeps.specs.Theorems.{Sweep}
 use Rattle.sweeps.proofs.Laws.{sweep as sweep-law}
 use Rattle.store.specs.Views.{View, Pegs}
-use Rattle.store.specs.Steps.{After, declined, left, sweep, unless, swept_view, season_asked, step}
+use Rattle.store.specs.Steps.{declined, left, sweep, swept_view, season_asked, step}
 
 -- a filled peg was filled before
 peg_back : (f : ℕ → ℕ) (P : Pegs) (p m : ℕ) → get_or (map (on_peg f) P) p None ≡ Some m → (n : ℕ) × ((get_or P p None ≡ Some n) × (m ≡ f n))

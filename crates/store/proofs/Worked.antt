@@ -1,29 +1,26 @@
 -- From the engine's answer to the store's. Assumes nothing.
-use Rattle.std.proofs.Common.{◌≡◌, ℕ, suc, ◌-◌, ◌^◌, ◌<◌, ◌≤◌, min, Bool, true, false, eqb, ltb, leb, ◌↔◌, List, length, IfOk, Some, None, Ok, Err, Option, Result, sym, refl, ap, ◌∙◌, subst, arith}
+use Rattle.std.proofs.Common.{◌≡◌, ℕ, ◌≤◌, Bool, true, false, ◌↔◌, List, IfOk, Some, None, Ok, Err, Option, Result, sym, refl, ap, ◌∙◌, subst, arith}
 use Rattle.std.proofs.lemmas.Bool.Decides.{nat_tests}
 use Rattle.orders.specs.declared.order.Order.{Order}
 use Rattle.orders.specs.declared.refusal.Refusal.{Refusal}
 use Rattle.orders.specs.declared.refusal.Refusal.TheVariants.{NoRoom}
 use Rattle.orders.specs.Chains.{ChainLaws}
-use Rattle.caches.specs.Recall.{Recalls}
 use Rattle.diagrams.specs.declared.Node.{Node}
 use Rattle.diagrams.specs.declared.Task.{Task}
 use Rattle.diagrams.specs.Moves.{Moves}
 use Rattle.diagrams.specs.Table.{Exists, Sound, Extends, In}
 use Rattle.diagrams.specs.Rules.{Outcome, done, full, Makes}
-use Rattle.diagrams.specs.Work.{Valid, Set, Sought, task}
+use Rattle.diagrams.specs.Work.{Valid, Set, task}
 use Rattle.diagrams.proofs.Words.{answer_is, single_is}
 use Rattle.diagrams.proofs.Engine.{task_makes}
 use Rattle.engine.specs.Answers.{As, Counts, Once}
 use Rattle.engine.specs.declared.found.Found.{Found as Solved}
-use Rattle.store.specs.declared.plan.Plan.{Plan}
-use Rattle.store.specs.declared.shapes.Found.{Found}
 use Rattle.store.specs.declared.shapes.Handle.{Handle}
 use Rattle.store.specs.declared.shapes.SetCall.{SetCall}
 use Rattle.store.specs.declared.shapes.SetCall.TheVariants.{Single, Join, Meet, Without, Carry, Follow, Pick}
-use Rattle.store.specs.Views.{View, room_of, with_nodes}
-use Rattle.store.specs.Questions.{ask, or_else, answered, number_asked, handle_asked, order_asked, spot_asked, call_asked, task_of}
-use Rattle.store.specs.Steps.{After, Reply, found, declined, sets, handle_of, worked, unless, step, bare, entries_in, entries_if}
+use Rattle.store.specs.Views.{View, room_of}
+use Rattle.store.specs.Questions.{ask, or_else, answered, number_asked, handle_asked, spot_asked, call_asked, task_of}
+use Rattle.store.specs.Steps.{sets, worked, unless, step, bare, entries_in, entries_if}
 use Rattle.store.specs.Does.{Wanted}
 
 -- a question that is left declines nothing: so its test holds

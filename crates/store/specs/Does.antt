@@ -1,5 +1,5 @@
 -- What a call's contract says. Assumes nothing.
-use Rattle.std.specs.Prelude.{◌≡◌, ℕ, ◌-◌, ◌^◌, ◌≤◌, min, ◌↔◌, List, [], replicate, IfOk, Some, None, Ok, Err, Option, Result}
+use Rattle.std.specs.Prelude.{◌≡◌, ℕ, ◌-◌, ◌^◌, ◌≤◌, min, ◌↔◌, [], replicate, IfOk, Some, None, Ok, Err, Option, Result}
 use Rattle.orders.specs.declared.order.Order.{Order}
 use Rattle.orders.specs.declared.refusal.Refusal.{Refusal}
 use Rattle.caches.specs.Recall.{Recalls}

@@ -1,8 +1,7 @@
 -- The calls that change a store, and what each does to what the store is. Assumes nothing.
-use Rattle.std.specs.Prelude.{ℕ, suc, ◌+◌, Bool, true, false, not, ◌&&◌, List, length, set, Some, None, Ok, Err, Option, Result, nat_le, nat_lt, slice_set}
+use Rattle.std.specs.Prelude.{ℕ, suc, ◌+◌, Bool, ◌&&◌, length, Some, None, Ok, Err, Option, Result, nat_le, nat_lt, slice_set}
 use Rattle.orders.specs.declared.refusal.Refusal.{Refusal}
 use Rattle.orders.specs.declared.refusal.Refusal.TheVariants.{NoRoom, LastSeason, BadNode}
-use Rattle.diagrams.specs.declared.Node.{Node}
 use Rattle.diagrams.specs.Moves.{Moves}
 use Rattle.diagrams.specs.Level.{level}
 use Rattle.diagrams.specs.Table.{x_of, level_of}

@@ -1,4 +1,6 @@
 // The store: sets of orders by handle, over a node table, a chain and a cache.
+#![tactic(auto)]
+
 mod hold;
 mod plan;
 mod shapes;

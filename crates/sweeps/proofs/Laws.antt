@@ -2,7 +2,7 @@
 use Rattle.std.proofs.Common.{◌≡◌, ℕ, zero, suc, ◌≤◌, List, [], ◌∷◌, map, length, get_or, Some, Option, sym, ap, ◌∙◌, inr, arith}
 use Rattle.diagrams.specs.declared.Node.{Node}
 use Rattle.diagrams.specs.Table.{at, Exists, Sound, lo_of, hi_of}
-use Rattle.sweeps.specs.Reaching.{empty, Pegs, Reached, held, low, high, reached}
+use Rattle.sweeps.specs.Reaching.{empty, Pegs, Reached, low, high, reached}
 use Rattle.sweeps.specs.Sweeping.{on_peg, renumber, swept, renumbered, pegs_after}
 use Rattle.sweeps.specs.Marks.{Kept, Closed}
 use Rattle.sweeps.specs.Theorems.{Sweep}

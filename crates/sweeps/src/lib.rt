@@ -1,4 +1,6 @@
 // Sweeps: a table with the nodes that the pegs of a store reach, and no other (its garbage collection).
+#![tactic(auto)]
+
 ghost use Rattle.std.specs.Prelude.{◌≡◌};
 ghost use Rattle.tables.specs.Rows.{rows};
 ghost use Rattle.sweeps.specs.Reaching.{Pegs};

@@ -1,4 +1,4 @@
-use Rattle.std.proofs.Common.{arith, rules}
+use Rattle.std.proofs.Common.{rules}
 use Rattle.factors.proofs.Texts.{cut_shorter}
 use Rattle.factors.proofs.account_of.Goals as goal
 

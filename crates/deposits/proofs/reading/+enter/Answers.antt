@@ -1,6 +1,6 @@
-use Rattle.std.proofs.Common.{◌≡◌, ℕ, ◌+◌, ◌<◌, ◌≤◌, List, [], ◌∷◌, length, get_or, Err, sym, refl, ap, ◌∙◌, subst, arith, length-append, ltb-false, ltb-true}
+use Rattle.std.proofs.Common.{ℕ, ◌+◌, ◌<◌, List, [], ◌∷◌, length, get_or, Err, sym, refl, ap, ◌∙◌, subst, arith, length-append, ltb-false, ltb-true}
 use Rattle.std.specs.List.{between}
-use Rattle.lists.specs.Items.{items_of, room_of}
+use Rattle.lists.specs.Items.{items_of}
 use Rattle.forms.specs.Marks.{taken}
 use Rattle.forms.specs.Visits.{blank}
 use Rattle.sheets.proofs.Sheets.{length_rest}

@@ -1,4 +1,4 @@
-use Rattle.std.proofs.Common.{◌≡◌, sym, arith}
+use Rattle.std.proofs.Common.{sym, arith}
 use Rattle.deposits.proofs.Enters.{taken_beyond}
 use Rattle.deposits.proofs.reading.number_of.Goals as goal
 

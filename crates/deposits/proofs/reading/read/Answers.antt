@@ -1,12 +1,11 @@
-use Rattle.std.proofs.Common.{◌≡◌, ℕ, List, [], length, Ok, Err, Result, sym, refl, ap, ◌∙◌, subst, ap₂, arith}
-use Rattle.lists.specs.Items.{items_of}
+use Rattle.std.proofs.Common.{ℕ, List, Ok, Err, Result, sym, ap, ◌∙◌, ap₂}
 use Rattle.lists.specs.declared.node_line.NodeLine.{NodeLine}
 use Rattle.forms.specs.Marks.{taken}
 use Rattle.sheets.specs.declared.fault.Fault.{Fault}
 use Rattle.store.specs.declared.shapes.Handle.{Handle}
 use Rattle.store.specs.declared.plan.Plan.{Plan}
-use Rattle.store.specs.Views.{View, view}
-use Rattle.deposits.specs.Reading.{Entry, enters, rooted}
+use Rattle.store.specs.Views.{view}
+use Rattle.deposits.specs.Reading.{enters, rooted}
 use Rattle.tables.proofs.Rows.{sound_of}
 use Rattle.sheets.proofs.Endings.{fault_is}
 use Rattle.deposits.proofs.Enters.{reads_with, handled}

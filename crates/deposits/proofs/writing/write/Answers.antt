@@ -1,15 +1,11 @@
-use Rattle.std.proofs.Common.{◌≡◌, ℕ, List, length, Err, sym, refl, ap, ◌∙◌, subst, ap₂, arith}
-use lib.ListN.{length-replicate}
-use Rattle.lists.specs.declared.node_line.NodeLine.{NodeLine}
-use Rattle.lists.specs.Items.{room_of}
+use Rattle.std.proofs.Common.{ℕ, List, length, sym, ap, ◌∙◌, subst, arith}
 use Rattle.diagrams.specs.declared.Node.{Node}
-use Rattle.diagrams.specs.Table.{Exists, count_of}
+use Rattle.diagrams.specs.Table.{Exists}
 use Rattle.forms.specs.Walks.{sheet_of}
 use Rattle.lines.specs.Pages.{Put}
-use Rattle.sheets.specs.Format.{sheet_bytes}
 use Rattle.store.specs.Views.{view}
 use Rattle.store.proofs.Worked.{accepted, handle_there}
-use Rattle.deposits.specs.Writing.{sheet_text, Writes}
+use Rattle.deposits.specs.Writing.{Writes}
 use Rattle.deposits.proofs.Writings.{asked_no, refusal_is, writes_no, writes_yes, text_is}
 use Rattle.deposits.proofs.writing.write.Goals as goal
 

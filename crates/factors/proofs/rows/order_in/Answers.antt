@@ -2,7 +2,6 @@ use Rattle.std.proofs.Common.{length, Ok, Err, Result, sym, ◌∙◌, subst, Ma
 use Rattle.orders.specs.Entries.{Writes}
 use Rattle.lines.specs.Held.{held}
 use Rattle.lines.proofs.Follows.{written_tells}
-use Rattle.factors.specs.Account.{Row, NoRow}
 use Rattle.factors.proofs.rows.order_in.Goals as goal
 
 cases_map : {A B : Type 0} (P P' : A → Type 0) (Q Q' : B → Type 0) (r : Result A B) → ((a : A) → P a → P' a) → ((b : B) → Q b → Q' b) → MatchResult r P Q → MatchResult r P' Q'

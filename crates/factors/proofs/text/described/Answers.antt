@@ -1,4 +1,3 @@
-use Rattle.std.proofs.Common.{◌≡◌, ◌++◌, string_bytes, codes, decimal, refl, ap, ◌∙◌}
 use Rattle.factors.proofs.text.described.Goals as goal
 
 pub returns : goal.returns

@@ -1,6 +1,5 @@
-use Rattle.std.proofs.Common.{sym, ap}
-use Rattle.orders.specs.Factors.{factor_pairs, pairs_in}
-use Rattle.factors.specs.Account.{factors_text}
+use Rattle.std.proofs.Common.{sym}
+use Rattle.orders.specs.Factors.{factor_pairs}
 use Rattle.factors.proofs.text.factor_text.Goals as goal
 
 pub returns : goal.returns

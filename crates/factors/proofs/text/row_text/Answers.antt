@@ -1,6 +1,6 @@
-use Rattle.std.proofs.Common.{◌≡◌, ℕ, ◌-◌, [], ◌++◌, length, string_bytes, string_len, sym, refl, ap, ◌∙◌, true≢false, append_assoc, append-nil, arith, rules, eq-eqb, eqb-true}
+use Rattle.std.proofs.Common.{◌≡◌, ◌-◌, ◌++◌, length, string_bytes, string_len, sym, ap, ◌∙◌, true≢false, append_assoc, eq-eqb, eqb-true}
 use Rattle.orders.specs.Factors.{pairs_in}
-use Rattle.factors.specs.Account.{factor_list, or_none}
+use Rattle.factors.specs.Account.{factor_list}
 use Rattle.factors.proofs.Texts.{list_more, written_all, none_written, some_written}
 use Rattle.factors.proofs.text.row_text.Goals as goal
 use Rattle.factors.proofs.text.row_text.Goals.{then-is_empty+in_ok-push_str, else-is_empty}

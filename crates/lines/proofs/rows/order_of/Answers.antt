@@ -1,7 +1,4 @@
 use Rattle.std.proofs.Common.{Ok, Err, Result, MatchResult}
-use Rattle.orders.specs.Entries.{Writes, Refused}
-use Rattle.orders.specs.declared.order.Order.{Order}
-use Rattle.orders.specs.declared.refusal.Refusal.{Refusal}
 use Rattle.lines.proofs.Places.{writes_held, refused_held}
 use Rattle.lines.proofs.rows.order_of.Goals as goal
 

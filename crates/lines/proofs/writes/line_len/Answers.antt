@@ -1,6 +1,4 @@
-use Rattle.std.proofs.Common.{◌≡◌, ◌+◌, ◌-◌, ◌<◌, ◌≤◌, [], length, get_or, take, drop, decimal, sym, refl, ap, ◌∙◌, arith, ltb-false, ltb-true}
-use Rattle.std.proofs.lemmas.List.{nil_from_length}
-use Rattle.lines.specs.Format.{line}
+use Rattle.std.proofs.Common.{◌<◌, length, arith, ltb-false}
 use Rattle.lines.proofs.Pages.{length_written, length_rest, length_line}
 use Rattle.lines.proofs.writes.line_len.Goals as goal
 

@@ -1,4 +1,4 @@
-use Rattle.std.proofs.Common.{◌≡◌, ℕ, length, Some, None, Ok, Err, Result, rules, MatchResult}
+use Rattle.std.proofs.Common.{◌≡◌, ℕ, length, Some, None, Ok, Err, Result, MatchResult}
 use Rattle.std.specs.List.{slice_get}
 use Rattle.orders.specs.declared.refusal.Refusal.{Refusal}
 use Rattle.orders.specs.declared.refusal.Refusal.TheVariants.{NoRoom}

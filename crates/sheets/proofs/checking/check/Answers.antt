@@ -1,7 +1,6 @@
-use Rattle.std.proofs.Common.{◌≡◌, ℕ, ◌+◌, ◌≤◌, List, [], length, Ok, Err, Result, sym, refl, ap, ◌∙◌, ap₂, arith}
-use Rattle.lists.specs.Items.{items_of, room_of}
+use Rattle.std.proofs.Common.{ℕ, List, length, Result, sym, ap, ◌∙◌, ap₂, arith}
+use Rattle.lists.specs.Items.{items_of}
 use Rattle.lists.specs.declared.node_line.NodeLine.{NodeLine}
-use Rattle.tables.specs.Rows.{rows as rows_of}
 use Rattle.sheets.specs.declared.fault.Fault.{Fault}
 use Rattle.sheets.specs.declared.checking.Checked.{Checked}
 use Rattle.sheets.specs.Checks.{Top, tabled, rows, finish, Outcome}

@@ -1,4 +1,4 @@
-use Rattle.std.proofs.Common.{◌≡◌, ◌+◌, eqb, sym, ap, ◌∙◌, arith}
+use Rattle.std.proofs.Common.{◌+◌, eqb, sym, ap, ◌∙◌}
 use Rattle.diagrams.specs.declared.Node.{Node}
 use Rattle.diagrams.specs.Table.{count_of}
 use Rattle.tables.specs.Rows.{rows}

@@ -1,8 +1,8 @@
-use Rattle.std.proofs.Common.{◌≡◌, ℕ, ◌+◌, ◌<◌, ◌≤◌, List, length, Ok, Err, sym, ap, ◌∙◌, subst, ap₂, arith}
+use Rattle.std.proofs.Common.{◌≡◌, ℕ, ◌+◌, List, length, Ok, Err, sym, ap, ◌∙◌, subst, ap₂, arith}
 use Rattle.diagrams.specs.Table.{Sound}
 use Rattle.tables.specs.Rows.{rows}
 use Rattle.tables.proofs.Rows.{sound_of}
-use Rattle.sheets.specs.Faults.{bad_line, misnumbered}
+use Rattle.sheets.specs.Faults.{bad_line}
 use Rattle.sheets.specs.Visits.{marks_in}
 use Rattle.sheets.specs.Checks.{off, marks_of}
 use Rattle.sheets.proofs.Endings.{marks_are, finish_surplus, finish_off, finish_count, finish_ok}

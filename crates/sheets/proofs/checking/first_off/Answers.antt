@@ -1,4 +1,4 @@
-use Rattle.std.proofs.Common.{◌≡◌, sym, ap, ◌∙◌, arith}
+use Rattle.std.proofs.Common.{sym, ◌∙◌, arith}
 use Rattle.sheets.proofs.Endings.{off_more, off_here, off_end}
 use Rattle.sheets.proofs.checking.first_off.Goals as goal
 

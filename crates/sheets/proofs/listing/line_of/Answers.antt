@@ -1,4 +1,4 @@
-use Rattle.std.proofs.Common.{◌≡◌, sym, ap, ◌∙◌}
+use Rattle.std.proofs.Common.{sym, ap, ◌∙◌}
 use Rattle.forms.specs.Marks.{taken}
 use Rattle.diagrams.proofs.Numbers.{reads}
 use Rattle.sheets.proofs.listing.line_of.Goals as goal

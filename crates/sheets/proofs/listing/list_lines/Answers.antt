@@ -1,5 +1,4 @@
-use Rattle.std.proofs.Common.{◌≡◌, length, sym, ap, ◌∙◌, arith}
-use Rattle.lists.specs.Items.{room_of}
+use Rattle.std.proofs.Common.{length, ap, ◌∙◌, arith}
 use Rattle.sheets.proofs.Listings.{listing_none, listing_more, listing_all, listed_node}
 use Rattle.sheets.proofs.listing.list_lines.Goals as goal
 

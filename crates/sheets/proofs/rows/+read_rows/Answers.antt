@@ -1,4 +1,4 @@
-use Rattle.std.proofs.Common.{◌≡◌, ℕ, ◌+◌, ◌-◌, List, length, sym, refl, ap, ◌∙◌, subst, arith}
+use Rattle.std.proofs.Common.{ℕ, List, sym, refl, ap, ◌∙◌, subst, arith}
 use Rattle.lists.specs.Items.{items_of}
 use Rattle.sheets.specs.Checks.{Outcome, rows}
 use Rattle.sheets.specs.Gives.{Gives}

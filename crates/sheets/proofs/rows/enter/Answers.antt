@@ -1,5 +1,5 @@
-use Rattle.std.proofs.Common.{◌≡◌, ◌<◌, ◌≤◌, [], ◌∷◌, ◌++◌, length, sym, refl, ap, ◌∙◌, arith, length-set}
-use Rattle.lists.specs.Items.{items_of, room_of, Added}
+use Rattle.std.proofs.Common.{sym, ap, ◌∙◌, arith}
+use Rattle.lists.specs.Items.{items_of}
 use Rattle.tables.specs.Rows.{rows}
 use Rattle.sheets.specs.Checks.{tabled, grown}
 use Rattle.sheets.proofs.Entries.{tabled_push, kept_in, made, added}

@@ -1,4 +1,4 @@
-use Rattle.std.proofs.Common.{◌≡◌, ℕ, ◌+◌, Bool, true, false, length, sym, ap, ◌∙◌, arith}
+use Rattle.std.proofs.Common.{◌+◌, sym, ap, ◌∙◌, arith}
 use Rattle.tables.specs.Rows.{rows}
 use Rattle.sheets.specs.Checks.{paired, earlier}
 use Rattle.sheets.proofs.Keeps.{askable, keeps_no_pair, keeps_not_earlier, keeps_by}

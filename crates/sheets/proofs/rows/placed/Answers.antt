@@ -1,4 +1,4 @@
-use Rattle.std.proofs.Common.{◌≡◌, is_some, sym, ap, ◌∙◌, arith}
+use Rattle.std.proofs.Common.{is_some, sym, ap, ◌∙◌, arith}
 use Rattle.diagrams.specs.declared.Node.{Node}
 use Rattle.tables.specs.Rows.{rows}
 use Rattle.sheets.proofs.Keeps.{placed_no_level, placed_no_x, placed_by}

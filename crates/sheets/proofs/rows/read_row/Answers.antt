@@ -1,8 +1,7 @@
-use Rattle.std.proofs.Common.{◌≡◌, ℕ, ◌+◌, Bool, true, false, List, [], ◌∷◌, ◌++◌, length, get_or, Ok, Err, sym, refl, ap, ◌∙◌, subst, arith}
+use Rattle.std.proofs.Common.{◌≡◌, ℕ, ◌+◌, true, false, List, [], ◌∷◌, ◌++◌, length, Ok, Err, sym, refl, ap, ◌∙◌}
 use Rattle.lines.specs.Held.{held}
 use Rattle.lists.specs.declared.node_line.NodeLine.{NodeLine}
 use Rattle.lists.specs.Items.{items_of}
-use Rattle.tables.specs.Rows.{rows as rows_of}
 use Rattle.sheets.specs.Faults.{bad_node}
 use Rattle.sheets.specs.Lines.{values}
 use Rattle.sheets.specs.Checks.{tabled, keeps, line_from, Outcome, rows}

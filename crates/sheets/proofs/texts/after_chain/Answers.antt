@@ -1,4 +1,4 @@
-use Rattle.std.proofs.Common.{◌≡◌, ℕ, ◌≤◌, List, [], ◌∷◌, ◌++◌, length, codes, arith, rules, ltb-false}
+use Rattle.std.proofs.Common.{◌≤◌, length, codes, arith, rules, ltb-false}
 use Rattle.sheets.proofs.Fronts.{From, front_read}
 use Rattle.sheets.proofs.texts.after_chain.Goals as goal
 

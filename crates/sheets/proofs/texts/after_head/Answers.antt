@@ -1,4 +1,4 @@
-use Rattle.std.proofs.Common.{◌≡◌, ℕ, List, [], ◌∷◌, ◌++◌, drop, Err, codes, sym, ap, ◌∙◌}
+use Rattle.std.proofs.Common.{[], ◌∷◌, ◌++◌, drop, Err, codes, sym, ap, ◌∙◌}
 use Rattle.sheets.specs.Format.{head}
 use Rattle.sheets.proofs.Fronts.{names_ok, names_no}
 use Rattle.sheets.proofs.texts.after_head.Goals as goal

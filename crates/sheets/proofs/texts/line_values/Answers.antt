@@ -1,7 +1,5 @@
-use Rattle.std.proofs.Common.{◌≡◌, ℕ, List, length, Some, None, Err, sym, ap, ◌∙◌, arith, length-take-le}
-use Rattle.lines.specs.Reading.{cut, numbers}
+use Rattle.std.proofs.Common.{Some, None, Err, sym, ap, ◌∙◌, arith, length-take-le}
 use Rattle.lines.specs.Held.{held}
-use Rattle.lines.specs.declared.numbers.Fields.{Fields}
 use Rattle.lines.proofs.Readings.{first_is, fields_are}
 use Rattle.sheets.proofs.Fronts.{values_no_line, values_no_numbers, values_ok, values_no}
 use Rattle.sheets.proofs.texts.line_values.Goals as goal

@@ -1,6 +1,6 @@
-use Rattle.std.proofs.Common.{◌≡◌, ℕ, ◌<◌, ◌≤◌, get_or, Ok, Err, sym, ap, ◌∙◌, arith}
+use Rattle.std.proofs.Common.{◌≡◌, Ok, Err, sym, ap, ◌∙◌, arith}
 use Rattle.lines.specs.Held.{held}
-use Rattle.sheets.specs.Checks.{Top, top}
+use Rattle.sheets.specs.Checks.{top}
 use Rattle.sheets.proofs.Tops.{passed, held_at, top_no_names, top_no_values, top_many, top_other, top_no_node_names, top_ok}
 use Rattle.sheets.proofs.top.read_top.Goals as goal
 

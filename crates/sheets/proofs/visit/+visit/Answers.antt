@@ -1,7 +1,6 @@
-use Rattle.std.proofs.Common.{◌≡◌, ℕ, suc, ◌+◌, ◌-◌, ◌<◌, ◌≤◌, ◌≢◌, length, get_or, take, set, sym, refl, ap, ◌∙◌, arith, length-set}
+use Rattle.std.proofs.Common.{◌≡◌, ℕ, suc, ◌+◌, ◌-◌, ◌<◌, ◌≢◌, length, get_or, take, set, refl, ap, ◌∙◌, arith, length-set}
 use Rattle.std.proofs.lemmas.List.{get_or-set_other}
-use Rattle.diagrams.specs.Table.{at, NodeOk}
-use Rattle.forms.specs.Marks.{zeros, mark}
+use Rattle.forms.specs.Marks.{zeros}
 use Rattle.forms.proofs.Tracks.{zeros_set}
 use Rattle.sheets.proofs.Steps.{pass_end, pass_marked, visit_step, given_is}
 use Rattle.sheets.proofs.visit.+visit.Goals as goal

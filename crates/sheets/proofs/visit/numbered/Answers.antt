@@ -1,4 +1,4 @@
-use Rattle.std.proofs.Common.{◌≡◌, suc, sym, subst, arith}
+use Rattle.std.proofs.Common.{suc, sym, subst, arith}
 use Rattle.forms.specs.Marks.{Marked}
 use Rattle.forms.proofs.Tracks.{marks_stand}
 use Rattle.sheets.proofs.visit.numbered.Goals as goal

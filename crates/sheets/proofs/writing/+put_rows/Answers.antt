@@ -1,9 +1,9 @@
-use Rattle.std.proofs.Common.{◌≡◌, ◌+◌, ◌<◌, length, get_or, sym, ap, ◌∙◌, arith, ltb-false, ltb-true}
+use Rattle.std.proofs.Common.{◌<◌, length, get_or, sym, ap, ◌∙◌, arith, ltb-false, ltb-true}
 use Rattle.lines.specs.Format.{line}
 use Rattle.lines.specs.Pages.{put}
 use Rattle.lines.proofs.Pages.{put_none, long_as}
 use Rattle.forms.specs.Visits.{blank}
-use Rattle.sheets.specs.Format.{node_values, node_lines}
+use Rattle.sheets.specs.Format.{node_values}
 use Rattle.sheets.proofs.Sheets.{lines_none, length-lines, length_rest, put_lines}
 use Rattle.sheets.proofs.writing.+put_rows.Goals as goal
 

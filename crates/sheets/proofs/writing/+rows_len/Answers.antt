@@ -1,4 +1,4 @@
-use Rattle.std.proofs.Common.{◌≡◌, ◌<◌, length, ap, arith, ltb-false, ltb-true}
+use Rattle.std.proofs.Common.{◌<◌, length, ap, arith, ltb-false, ltb-true}
 use Rattle.sheets.proofs.Sheets.{lines_none, length-lines, length_rest}
 use Rattle.sheets.proofs.writing.+rows_len.Goals as goal
 

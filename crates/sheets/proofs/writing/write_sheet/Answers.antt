@@ -1,4 +1,4 @@
-use Rattle.std.proofs.Common.{◌≡◌, ℕ, ◌+◌, ◌≤◌, List, [], ◌∷◌, length, sym, refl, ap, ◌∙◌, arith}
+use Rattle.std.proofs.Common.{◌≡◌, ◌≤◌, [], ◌∷◌, length, refl, ap, ◌∙◌, arith}
 use Rattle.lines.specs.Format.{line}
 use Rattle.lines.specs.Pages.{put}
 use Rattle.sheets.specs.Format.{sheet_bytes}

@@ -1,4 +1,4 @@
-use Rattle.std.proofs.Common.{ℕ, ◌<◌, length, arith, rules}
+use Rattle.std.proofs.Common.{◌<◌, length, rules}
 use Rattle.caches.proofs.Kept.{fallen_told, set_fallen}
 use Rattle.caches.proofs.slots.SlotsCache.tell.Goals as goal
 

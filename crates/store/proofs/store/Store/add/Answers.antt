@@ -1,11 +1,11 @@
-use Rattle.std.proofs.Common.{◌≡◌, ℕ, ◌≤◌, true, length, sym, refl, ap, ◌∙◌, zero-le, arith}
+use Rattle.std.proofs.Common.{sym, refl, ap, ◌∙◌, zero-le, arith}
 use Rattle.std.proofs.lemmas.Result.{err_from_is_err_and}
 use Rattle.diagrams.specs.Rules.{node}
 use Rattle.engine.specs.declared.room.Room.{Room}
 use Rattle.tables.specs.Rows.{rows}
 use Rattle.tables.proofs.Rows.{sound_of, rows_within}
 use Rattle.store.specs.Views.{view, with_nodes}
-use Rattle.store.specs.Steps.{found, declined, handle_of, keeps_rules}
+use Rattle.store.specs.Steps.{found, declined}
 use Rattle.store.proofs.Racks.{pegged_more}
 use Rattle.store.proofs.Added.{keeps_asks, add_fine, add_bad, made_ok, made_no, add_grown}
 use Rattle.store.proofs.store.Store.add.Goals as goal

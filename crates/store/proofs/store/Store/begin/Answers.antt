@@ -1,4 +1,4 @@
-use Rattle.std.proofs.Common.{replicate, None, refl}
+use Rattle.std.proofs.Common.{replicate, refl}
 use Rattle.tables.specs.Rows.{rows}
 use Rattle.store.proofs.Racks.{none_pegged, unpegged}
 use Rattle.store.proofs.store.Store.begin.Goals as goal

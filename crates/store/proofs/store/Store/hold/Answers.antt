@@ -1,6 +1,5 @@
-use Rattle.std.proofs.Common.{◌≡◌, ℕ, set, Some, None, sym, refl, ap, ◌∙◌, subst, zero-le, arith, length-set}
+use Rattle.std.proofs.Common.{◌≡◌, set, Some, None, sym, refl, ap, ◌∙◌, zero-le, arith, length-set}
 use Rattle.diagrams.specs.Table.{Exists}
-use Rattle.tables.specs.Rows.{rows}
 use Rattle.store.specs.Views.{view, with_pegs}
 use Rattle.store.specs.Questions.{handle_asked, peg_asked, or_else}
 use Rattle.store.specs.Steps.{After, held, holds, unless, step}

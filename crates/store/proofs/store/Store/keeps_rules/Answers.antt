@@ -1,8 +1,7 @@
-use Rattle.std.proofs.Common.{◌≡◌, ℕ, ◌<◌, ◌≤◌, length, sym, refl, ap, ◌∙◌, arith}
+use Rattle.std.proofs.Common.{◌≡◌, length, ap, ◌∙◌, arith}
 use Rattle.std.proofs.lemmas.Bool.Decides.{nat_tests}
-use Rattle.diagrams.specs.Level.{level}
 use Rattle.diagrams.specs.Bodies.{row}
-use Rattle.diagrams.specs.Table.{Exists, x_of, level_of}
+use Rattle.diagrams.specs.Table.{Exists}
 use Rattle.diagrams.specs.declared.Node.{Node}
 use Rattle.tables.specs.Rows.{rows}
 use Rattle.tables.proofs.Rows.{sound_of, level_kept}

@@ -1,4 +1,4 @@
-use Rattle.std.proofs.Common.{◌≡◌, true, false, Decides, sym, refl, subst, arith}
+use Rattle.std.proofs.Common.{Decides, arith}
 use Rattle.std.proofs.lemmas.Bool.Decides.{nat_tests}
 use Rattle.diagrams.specs.Table.{Exists}
 use Rattle.tables.specs.Rows.{rows}

@@ -1,4 +1,4 @@
-use Rattle.std.proofs.Common.{◌≡◌, ℕ, ◌<◌, set, Some, None, sym, refl, ap, ◌∙◌, zero-le, arith, length-set}
+use Rattle.std.proofs.Common.{set, None, refl, ap, ◌∙◌, zero-le, arith, length-set}
 use Rattle.store.specs.Views.{view, with_pegs}
 use Rattle.store.specs.Steps.{released, released_by}
 use Rattle.store.proofs.Racks.{pegged_set, none_there, held_fine}

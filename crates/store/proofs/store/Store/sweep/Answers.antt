@@ -1,11 +1,9 @@
-use Rattle.std.proofs.Common.{◌≡◌, ℕ, ◌+◌, ◌<◌, length, get_or, None, sym, refl, ap, ◌∙◌, subst, zero-le, arith}
-use Rattle.tables.specs.declared.table.Table.{Table}
+use Rattle.std.proofs.Common.{◌≡◌, ◌+◌, length, get_or, None, sym, refl, ap, ◌∙◌, zero-le, arith}
 use Rattle.tables.specs.Rows.{rows}
 use Rattle.tables.proofs.Rows.{sound_of}
-use Rattle.sweeps.specs.Reaching.{Pegs as Pegged}
 use Rattle.sweeps.specs.Sweeping.{swept, pegs_after}
 use Rattle.sweeps.proofs.Laws.{sweep as sweep-law}
-use Rattle.store.specs.Views.{view, Pegs}
+use Rattle.store.specs.Views.{view}
 use Rattle.store.specs.Steps.{After, left, sweep, step}
 use Rattle.store.proofs.Holds.{holds_stand}
 use Rattle.store.proofs.Sweeps.{pegs_long, pegs_there, sweep_fine, sweep_last}

@@ -1,4 +1,4 @@
-use Rattle.std.proofs.Common.{◌≡◌, ℕ, ◌-◌, ◌^◌, ◌≤◌, min, Some, None, Ok, Err, sym, refl, ap, ◌∙◌, subst, zero-le, arith}
+use Rattle.std.proofs.Common.{◌≡◌, ◌-◌, ◌^◌, min, Some, None, Ok, sym, ap, ◌∙◌, subst, zero-le}
 use Rattle.std.proofs.lemmas.Result.{err_from_is_err_and}
 use Rattle.diagrams.specs.Work.{Valid}
 use Rattle.diagrams.specs.Bodies.{first_of}
@@ -6,10 +6,8 @@ use Rattle.diagrams.specs.Outright.{outright, kind_of, right_of}
 use Rattle.engine.specs.Answers.{Once}
 use Rattle.tables.specs.Rows.{rows}
 use Rattle.tables.proofs.Rows.{sound_of}
-use Rattle.store.specs.declared.shapes.Found.{Found}
 use Rattle.store.specs.Views.{view, with_nodes}
-use Rattle.store.specs.Questions.{call_asked, task_of}
-use Rattle.store.specs.Steps.{found, declined, handle_of}
+use Rattle.store.specs.Steps.{found, declined}
 use Rattle.store.proofs.Racks.{pegged_more}
 use Rattle.store.proofs.Worked.{valid, accepted, grown, same_work, as_done, as_full, once_is, step_is, bare_is, set_is}
 use Rattle.store.proofs.store.Store.work.Goals as goal
