@@ -3,4 +3,4 @@ pub mod Slots
 pub mod Racking
 pub mod Makes
 pub mod Emptying
-pub mod Playing
+pub mod Plays

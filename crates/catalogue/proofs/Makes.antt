@@ -6,6 +6,8 @@ use Rattle.std.specs.declared.alloc.Global.{Global}
 use Rattle.orders.specs.declared.refusal.Refusal.{Refusal}
 use Rattle.orders.specs.declared.refusal.Refusal.TheVariants.{ShortPage, NoSuchHold}
 use Rattle.caches.specs.Recall.{Recalls}
+use Rattle.orders.specs.declared.chain.Chain as chain
+use Rattle.caches.specs.declared.Cache as cache
 use Rattle.lines.specs.Pages.{Stands, Short}
 use Rattle.lists.specs.declared.node_line.NodeLine.{NodeLine}
 use Rattle.diagrams.specs.declared.Node.{Node}
@@ -47,18 +49,18 @@ use Rattle.catalogue.specs.Serves.{Works, Serves}
 use Rattle.catalogue.proofs.Slots.{some_within}
 use Rattle.catalogue.proofs.Racking.{racked_same, racked_swept, racked_set, racked_held, racked_lacks, Given, given, taken_back}
 
-module _ {G C : Type 0} (code : ℕ) (g : Moves) (rc : C → Recalls) where
+module _ {G C : Type 0} {cg : chain.Ghosts G} {cc : cache.Ghosts C} (code : ℕ) (g : Moves) (rc : C → Recalls) where
   -- one of the store's own calls
-  pub stored_does : {s t : Store G C} {call : store.Call} {reply : store.Reply} {n : ℕ} → Store-Does.Does g rc s call t reply n → Does code g rc s (stores call) t (stored reply) n
+  pub stored_does : {s t : Store G C cg cc} {call : store.Call} {reply : store.Reply} {n : ℕ} → Store-Does.Does g rc s call t reply n → Does code g rc s (stores call) t (stored reply) n
   stored_does d = record { after = ap as_stored d.after; kept = d.kept; most = d.most; just = d.just }
 
   -- a sheet is read
-  pub read_does : {s t : Store G C} {text : List ℕ} {r : Result Handle Fault} → ◌≡◌ {A = View × Result Handle Fault} (view t, r) (deposits.reads code (view s) text) → Kept g rc t
+  pub read_does : {s t : Store G C cg cc} {text : List ℕ} {r : Result Handle Fault} → ◌≡◌ {A = View × Result Handle Fault} (view t, r) (deposits.reads code (view s) text) → Kept g rc t
       → Does code g rc s (reads text) t (read r) 0
   read_does e k = record { after = ap as_read e; kept = k; most = omega arith; just = λ f. refl }
 
   -- nothing changes
-  pub look_does : (s : Store G C) (l : Look) (reply : Reply) → Kept g rc s → reply ≡ look code g (view s) l → Does code g rc s (looks l) s reply 0
+  pub look_does : (s : Store G C cg cc) (l : Look) (reply : Reply) → Kept g rc s → reply ≡ look code g (view s) l → Does code g rc s (looks l) s reply 0
   look_does s l reply k e = record { after = ap (λ (r : Reply). (view s, r)) e; kept = k; most = omega arith; just = λ f. refl }
 
 -- a piece or a place above 16 is not within the store's pieces
@@ -85,7 +87,7 @@ names_no w (Follow a b) e h = h
 names_no w (Pick a k p) e h = pick_no w (handle_asked w (handle_named a)) k p e h
 
 -- a call that a question declines leaves the store as it was
-pub declined_does : {G C : Type 0} (g : Moves) (rc : C → Recalls) (s : Store G C) (call : SetCall) (e : Refusal) → call_asked (view s) call ≡ Some e → Kept g rc s → Store-Does.Does g rc s (sets call) s (declined e) 0
+pub declined_does : {G C : Type 0} {cg : chain.Ghosts G} {cc : cache.Ghosts C} (g : Moves) (rc : C → Recalls) (s : Store G C cg cc) (call : SetCall) (e : Refusal) → call_asked (view s) call ≡ Some e → Kept g rc s → Store-Does.Does g rc s (sets call) s (declined e) 0
 declined_does g rc s call e h k =
     let w = view s in
     let o = task g (room_of w) w.nodes (task_of call) in
@@ -187,7 +189,7 @@ module _ (code : ℕ) (w : View) (h : Handle) (before after : List ℕ) (q : han
       ap Err s.number ∙ sheet_by false (lt-leb (length text) (length before) (omega (arith, s.room)))
 
 -- a hold that is in hand is given back
-pub released_serves : {G C : Type 0} (code : ℕ) (g : Moves) (rc : C → Recalls) (s t : Store G C) (R R' : Slots) (c : Claim) (d : Hold) → length (view s).pegs ≡ 64 → Racked (view s) R → Took R R' c d
+pub released_serves : {G C : Type 0} {cg : chain.Ghosts G} {cc : cache.Ghosts C} (code : ℕ) (g : Moves) (rc : C → Recalls) (s t : Store G C cg cc) (R R' : Slots) (c : Claim) (d : Hold) → length (view s).pegs ≡ 64 → Racked (view s) R → Took R R' c d
     → Store-Does.Does g rc s (releases d) t released 0 → Serves code g rc s (Release c) t R' Released
 released_serves code g rc s t R R' c d long k took does =
     let w = view s in
@@ -202,7 +204,7 @@ released_serves code g rc s t R R' c d long k took does =
     }
 
 -- a hold that is not in hand is declined
-pub returned_serves : {G C : Type 0} (code : ℕ) (g : Moves) (rc : C → Recalls) (s : Store G C) (R R' : Slots) (c : Claim) → Kept g rc s → Racked (view s) R → Lacks R c → R' ≡ R
+pub returned_serves : {G C : Type 0} {cg : chain.Ghosts G} {cc : cache.Ghosts C} (code : ℕ) (g : Moves) (rc : C → Recalls) (s : Store G C cg cc) (R R' : Slots) (c : Claim) → Kept g rc s → Racked (view s) R → Lacks R c → R' ≡ R
     → Serves code g rc s (Release c) s R' (Returned NoSuchHold c)
 returned_serves code g rc s R R' c kept k lacks same = record {
   does = record {
@@ -215,7 +217,7 @@ returned_serves code g rc s R R' c kept k lacks same = record {
 }
 
 -- a set is held, and the hold is in hand
-pub held_serves : {G C : Type 0} (code : ℕ) (g : Moves) (rc : C → Recalls) (s t : Store G C) (R R' : Slots) (n : Name) (h : Handle) (p : ℕ) (d : Hold) (c : Claim)
+pub held_serves : {G C : Type 0} {cg : chain.Ghosts G} {cc : cache.Ghosts C} (code : ℕ) (g : Moves) (rc : C → Recalls) (s t : Store G C cg cc) (R R' : Slots) (n : Name) (h : Handle) (p : ℕ) (d : Hold) (c : Claim)
     → length (view s).pegs ≡ 64 → Racked (view s) R → h ≡ handle_named n → Store-Does.Does g rc s (holds h p) t (held d) 0 → R' ≡ set R p (Some d) → hold_named c ≡ d
     → Serves code g rc s (HoldOn n p) t R' (HeldSo (Ok c))
 held_serves code g rc s t R R' n h p d c long k e does slots claim =
@@ -232,17 +234,17 @@ abbrev Bytes : Type 0
 Bytes = Vec ℕ Global
 
 -- the other requests, each by what its call ensures
-module _ {G C : Type 0} (code : ℕ) (g : Moves) (rc : C → Recalls) (s : Store G C) (R : Slots) (kept : Kept g rc s) (k : Racked (view s) R) where
-  pub work_serves : (t : Store G C) (a : Asked) (r : Result Found Refusal) → Works g rc s a t r → Serves code g rc s (Work a) t R (Worked r)
+module _ {G C : Type 0} {cg : chain.Ghosts G} {cc : cache.Ghosts C} (code : ℕ) (g : Moves) (rc : C → Recalls) (s : Store G C cg cc) (R : Slots) (kept : Kept g rc s) (k : Racked (view s) R) where
+  pub work_serves : (t : Store G C cg cc) (a : Asked) (r : Result Found Refusal) → Works g rc s a t r → Serves code g rc s (Work a) t R (Worked r)
   work_serves t a r d = record { does = stored_does code g rc d; racked = after_sets g (view s) (view t) R k (set_call a) d.after }
 
-  pub add_serves : (t : Store G C) (x y lo hi : ℕ) (r : Result Handle Refusal) → Store-Does.Does g rc s (adds x y lo hi) t (handle_reply r) 0 → Serves code g rc s (Add x y lo hi) t R (Added r)
+  pub add_serves : (t : Store G C cg cc) (x y lo hi : ℕ) (r : Result Handle Refusal) → Store-Does.Does g rc s (adds x y lo hi) t (handle_reply r) 0 → Serves code g rc s (Add x y lo hi) t R (Added r)
   add_serves t x y lo hi r d = record { does = stored_does code g rc d; racked = after_adds g (view s) (view t) R k x y lo hi d.after }
 
-  pub sweep_serves : (t : Store G C) (r : Result ℕ Refusal) → Store-Does.Does g rc s sweep t (sweep_reply r) 0 → Serves code g rc s Sweep t R (Swept r)
+  pub sweep_serves : (t : Store G C cg cc) (r : Result ℕ Refusal) → Store-Does.Does g rc s sweep t (sweep_reply r) 0 → Serves code g rc s Sweep t R (Swept r)
   sweep_serves t r d = record { does = stored_does code g rc d; racked = after_sweep g (view s) (view t) R k d.after }
 
-  pub read_serves : (t : Store G C) (text : Bytes) (r : Result Handle Fault) → ◌≡◌ {A = View × Result Handle Fault} (view t, r) (deposits.reads code (view s) (vec_items text)) → Kept g rc t → Serves code g rc s (Read text) t R (ReadSo r)
+  pub read_serves : (t : Store G C cg cc) (text : Bytes) (r : Result Handle Fault) → ◌≡◌ {A = View × Result Handle Fault} (view t, r) (deposits.reads code (view s) (vec_items text)) → Kept g rc t → Serves code g rc s (Read text) t R (ReadSo r)
   read_serves t text r e h = record { does = read_does code g rc e h; racked = after_reads g (view s) (view t) R k code (vec_items text) e }
 
   -- a request that only looks

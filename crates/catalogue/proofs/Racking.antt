@@ -54,7 +54,7 @@ module _ (w : View) (R : Slots) (k : Racked w R) (long : length w.pegs ≡ 64) (
   racked_set = record { long = length-set R p _ ∙ k.long; each = λ q. each_set q (cases_eq q p) }
 
 -- a sweep renumbers what the pegs have, and fills and empties none
-swept_peg : (f : ℕ → ℕ) (P : Pegs) (mark q p : ℕ) → hold_on mark q (get_or (map (sweeping.on-peg f) P) p None) ≡ hold_on mark q (get_or P p None)
+swept_peg : (f : ℕ → ℕ) (P : Pegs) (mark q p : ℕ) → hold_on mark q (get_or (map (sweeping.on_peg f) P) p None) ≡ hold_on mark q (get_or P p None)
 swept_peg f [] mark q p = refl
 swept_peg f (None ∷ P) mark q zero = refl
 swept_peg f (Some n ∷ P) mark q zero = refl

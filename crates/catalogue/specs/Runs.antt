@@ -1,6 +1,8 @@
 -- Lists of calls, each made of what the earlier ones left. Assumes nothing.
 use Rattle.std.specs.Prelude.{◌≡◌, ℕ, ◌-◌, ◌^◌, ◌≤◌, min, List, [], ◌∷◌}
 use Rattle.caches.specs.Recall.{Recalls}
+use Rattle.orders.specs.declared.chain.Chain as chain
+use Rattle.caches.specs.declared.Cache as cache
 use Rattle.diagrams.specs.Moves.{Moves}
 use Rattle.engine.specs.Answers.{Forgets}
 use Rattle.store.specs.declared.plan.Plan.{Plan}
@@ -10,9 +12,9 @@ use Rattle.store.specs.Does.{Kept, Begun}
 use Rattle.catalogue.specs.Calls.{Call, Reply, step, bare}
 
 -- over stores of one chain, with this code and these moves, and of one cache, which remembers what `recalls` says
-module _ {G C : Type 0} (code : ℕ) (g : Moves) (recalls : C → Recalls) where
+module _ {G C : Type 0} {cg : chain.Ghosts G} {cc : cache.Ghosts C} (code : ℕ) (g : Moves) (recalls : C → Recalls) where
   -- A call turns the store s into t, with this reply and these entries.
-  pub record Does (s : Store G C) (call : Call) (t : Store G C) (reply : Reply) (entries : ℕ) : Type 0 where
+  pub record Does (s : Store G C cg cc) (call : Call) (t : Store G C cg cc) (reply : Reply) (entries : ℕ) : Type 0 where
     -- what the store is afterwards and what it replies are as `step` says, in which no cache occurs
     pub after : ◌≡◌ {A = View × Reply} (view t, reply) (step code g (view s) call)
     -- all that the cache remembers is right
@@ -22,13 +24,13 @@ module _ {G C : Type 0} (code : ℕ) (g : Moves) (recalls : C → Recalls) where
     pub just : Forgets C recalls → entries ≡ min (bare g (view s) call) (2 ^ 64 - 1)
 
   -- The calls of a list, one after another, turn one store into another, with these replies and entries.
-  pub data Runs : Store G C → List Call → Store G C → List Reply → List ℕ → Type 0 where
-    none : {s : Store G C} → Runs s [] s [] []
-    then : {s t u : Store G C} {call : Call} {calls : List Call} {reply : Reply} {replies : List Reply} {n : ℕ} {entries : List ℕ}
+  pub data Runs : Store G C cg cc → List Call → Store G C cg cc → List Reply → List ℕ → Type 0 where
+    none : {s : Store G C cg cc} → Runs s [] s [] []
+    then : {s t u : Store G C cg cc} {call : Call} {calls : List Call} {reply : Reply} {replies : List Reply} {n : ℕ} {entries : List ℕ}
         → Does s call t reply n → Runs t calls u replies entries → Runs s (call ∷ calls) u (reply ∷ replies) (n ∷ entries)
 
   -- A store that was begun from a tested plan, after the calls of a list.
-  pub record Reached (plan : Plan) (calls : List Call) (s : Store G C) (replies : List Reply) (entries : List ℕ) : Type 0 where
-    pub first : Store G C
+  pub record Reached (plan : Plan) (calls : List Call) (s : Store G C cg cc) (replies : List Reply) (entries : List ℕ) : Type 0 where
+    pub first : Store G C cg cc
     pub begun : Begun g recalls plan first
     pub runs : Runs first calls s replies entries

@@ -2,10 +2,10 @@
 mod agreement;
 mod naming;
 mod rack;
-mod replay;
+mod playing;
 mod request;
 mod serving;
 
 pub use agreement::agreement_stands;
-pub use replay::{Replay, replay};
+pub use playing::{Transcript, replay};
 pub use request::{Answer, Asked, Claim, Name, Request};

@@ -26,8 +26,8 @@ const PAGE: usize = 40000;
 
 // Works out a set.
 fn work<G: Chain, C: Cache>(store: &mut Store<G, C>, asked: Asked) -> Result<Found, Refusal>
-    requires { Kept table recalls store.old }
-    ensures { Works table recalls store.old asked store.new result }
+    requires { Kept G.table C.recalls store.old }
+    ensures { Works G.table C.recalls store.old asked store.new result }
 {
     match set_call(store, asked) {
         Ok(call) => store.work(call),
@@ -42,9 +42,9 @@ fn hold<G: Chain, C: Cache>(
     name: Name,
     peg: u64,
 ) -> Answer
-    requires kept { Kept table recalls store.old }
+    requires kept { Kept G.table C.recalls store.old }
     requires racked { Racked (view store.old) (slots_of rack.old) }
-    ensures { Serves number table recalls store.old (Request.Hold name peg) store.new (slots_of rack.new) result }
+    ensures { Serves G.number G.table C.recalls store.old (Request.Hold name peg) store.new (slots_of rack.new) result }
 {
     let handle = match name.known(store) {
         Ok(handle) => handle,
@@ -65,9 +65,9 @@ fn hold<G: Chain, C: Cache>(
 
 // Gives back a hold that the rack has; any other is declined.
 fn release<G: Chain, C: Cache>(store: &mut Store<G, C>, rack: &mut Rack, claim: Claim) -> Answer
-    requires kept { Kept table recalls store.old }
+    requires kept { Kept G.table C.recalls store.old }
     requires racked { Racked (view store.old) (slots_of rack.old) }
-    ensures { Serves number table recalls store.old (Request.Release claim) store.new (slots_of rack.new) result }
+    ensures { Serves G.number G.table C.recalls store.old (Request.Release claim) store.new (slots_of rack.new) result }
 {
     match rack.take(claim) {
         Some(hold) => {
@@ -102,7 +102,7 @@ fn count<G: Chain, C: Cache>(store: &Store<G, C>, name: Name) -> Result<u64, Ref
 
 // The order of a set with a number.
 fn fetch<G: Chain, C: Cache>(store: &Store<G, C>, name: Name, k: u64) -> Result<Order, Refusal>
-    ensures { result ≡ or_past (handle_asked (view store.now) (handle_named name)) (order_at table (view store.now).nodes name.number k) }
+    ensures { result ≡ or_past (handle_asked (view store.now) (handle_named name)) (order_at G.table (view store.now).nodes name.number k) }
 {
     store.order_at(name.known(store)?, k)
 }
@@ -113,7 +113,7 @@ fn place<G: Chain, C: Cache>(
     name: Name,
     order: Order,
 ) -> Result<Option<u64>, Refusal>
-    ensures { result ≡ answered (or_else (handle_asked (view store.now) (handle_named name)) (order_asked (view store.now) order)) (place_of table (view store.now).nodes name.number order) }
+    ensures { result ≡ answered (or_else (handle_asked (view store.now) (handle_named name)) (order_asked (view store.now) order)) (place_of G.table (view store.now).nodes name.number order) }
 {
     store.place_of(name.known(store)?, order)
 }
@@ -132,7 +132,7 @@ fn sheet<G: Chain, C: Cache>(
     store: &Store<G, C>,
     name: Name,
 ) -> Result<Result<Vec<u8>, Refusal>, AllocError>
-    ensures { IfOk result (λ b. bytes_of b ≡ sheet_on (handle_asked (view store.now) (handle_named name)) (sheet_text number (view store.now).nodes name.number) page) }
+    ensures { IfOk result (λ b. bytes_of b ≡ sheet_on (handle_asked (view store.now) (handle_named name)) (sheet_text G.number (view store.now).nodes name.number) page) }
 {
     let handle = match name.known(store) {
         Ok(handle) => handle,
@@ -152,11 +152,11 @@ pub(crate) fn serve<G: Chain, C: Cache>(
     rack: &mut Rack,
     request: &Request,
 ) -> Result<Answer, AllocError>
-    requires kept { Kept table recalls store.old }
+    requires kept { Kept G.table C.recalls store.old }
     requires racked { Racked (view store.old) (slots_of rack.old) }
     ensures { MatchResult result
-        (Serves number table recalls store.old request.now store.new (slots_of rack.new))
-        (λ _. Kept table recalls store.new × Racked (view store.new) (slots_of rack.new)) }
+        (Serves G.number G.table C.recalls store.old request.now store.new (slots_of rack.new))
+        (λ _. Kept G.table C.recalls store.new × Racked (view store.new) (slots_of rack.new)) }
 {
     match request {
         Request::Work(asked) => Ok(Answer::Worked(work(store, *asked))),

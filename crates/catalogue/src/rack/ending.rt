@@ -12,9 +12,9 @@ use store::Store;
 impl Rack {
     // Gives every hold back, from the last peg to the first.
     pub(crate) fn give_back<G: Chain, C: Cache>(self, store: &mut Store<G, C>)
-        requires kept { Kept table recalls store.old }
+        requires kept { Kept G.table C.recalls store.old }
         requires racked { Racked (view store.old) (slots_of self) }
-        ensures kept { Kept table recalls store.new }
+        ensures kept { Kept G.table C.recalls store.new }
         ensures view { view store.new ≡ unpegged (view store.old) }
     {
         let Rack { slots } = self;

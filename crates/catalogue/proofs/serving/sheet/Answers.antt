@@ -37,7 +37,7 @@ returns-in_ok-front-in-Ok-write g c =
     let name = handle_named c.args.name in
     let yes = accepted (handle_asked w name) name c.in-Ok.handle c.in-Ok.ensures in
     let fits = sheet_fits g.G.Chain.number w name blank c.write.new.page yes.0 c.in-Ok-write.end (named g.G.Chain.number w c.args.name c.in-Ok.handle c.write.new.page _ yes.1 c.in-Ok-write.ensures) in
-    ap (λ (b : List ℕ). Ok b) c.in-ok-front.ensures ∙ on_page _ g.G.Chain.number w c.args.name fits.1
+    ap (λ (b : List ℕ). Ok b) c.in_ok-front-in-Ok-write.ensures ∙ on_page _ g.G.Chain.number w c.args.name fits.1
 
 pub returns-in-Err-write : goal.returns-in-Err-write
 returns-in-Err-write g c =

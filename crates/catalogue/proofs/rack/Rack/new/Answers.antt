@@ -27,7 +27,7 @@ all : (slots : Slots) (n : ℕ) → slots ≡ replicate n empty → 64 ≤ n →
 all slots n e h k = let f : n ≡ 64 = omega arith in e ∙ ap (λ (m : ℕ). replicate m empty) f
 
 pub invariant_of-result : goal.invariant_of-result
-invariant_of-result c = (ap (length {A = Option Hold}) (all _ _ c.loop.invariant.items c.loop-test.false c.loop.auto.counter-end) ∙ length-replicate 64 empty, tt)
+invariant_of-result c = record { long = ap (length {A = Option Hold}) (all _ _ c.loop.invariant.items c.loop-test.false c.loop.auto.counter-end) ∙ length-replicate 64 empty }
 
 pub returns : goal.returns
 returns c = all _ _ c.loop.invariant.items c.loop-test.false c.loop.auto.counter-end

@@ -3,7 +3,7 @@ use Rattle.store.specs.Views.{view}
 use Rattle.store.specs.Does.{Kept}
 use Rattle.catalogue.specs.Racks.{Racked, slots_of}
 use Rattle.catalogue.specs.Replays.{Played}
-use Rattle.catalogue.proofs.replay.playing.serve_all.Given as goal
+use Rattle.catalogue.proofs.playing.replaying.serve_all.Given as goal
 
 abbrev pub invariant-loop-request : goal.invariant-loop-request
 invariant-loop-request g l = record {

@@ -5,7 +5,7 @@ ghost use Rattle.store.specs.Does.{Kept};
 ghost use Rattle.catalogue.specs.Agreement.{Agreement};
 ghost use Rattle.catalogue.specs.Racks.{Racked, slots_of};
 ghost use Rattle.catalogue.specs.Replays.{Played, Replayed, Alike};
-use super::Replay;
+use super::Transcript;
 use crate::rack::Rack;
 use crate::request::Answer;
 use crate::request::Request;
@@ -24,11 +24,11 @@ fn serve_all<G: Chain, C: Cache>(
     rack: &mut Rack,
     requests: &[Request],
 ) -> Result<Vec<Answer>, AllocError>
-    requires kept { Kept table recalls store.old }
+    requires kept { Kept G.table C.recalls store.old }
     requires racked { Racked (view store.old) (slots_of rack.old) }
-    ensures kept { Kept table recalls store.new }
+    ensures kept { Kept G.table C.recalls store.new }
     ensures racked { Racked (view store.new) (slots_of rack.new) }
-    ensures played { IfOk result (λ as. Played number table recalls store.old requests.now store.new as.items) }
+    ensures played { IfOk result (λ answers. Played G.number G.table C.recalls store.old requests.now store.new answers.items) }
 {
     let mut answers = Vec::new(heap);
     for request in requests {
@@ -45,16 +45,16 @@ pub fn replay<G: Chain + Drop, C: Cache + Drop, D: Cache>(
     chain: G,
     cache: C,
     requests: &[Request],
-) -> Result<Replay<G, C>, AllocError>
-    ensures run { IfOk result (Replayed G.Chain.number G.Chain.table C.Cache.recalls plan requests.now) }
-    ensures alike { IfOk result (Alike G.Chain.number G.Chain.table D.Cache.recalls plan requests.now) }
-    ensures agreement { Agreement G G.Chain.number G.Chain.table C.Cache.recalls D.Cache.recalls }
+) -> Result<Transcript<G, C>, AllocError>
+    ensures run { IfOk result (Replayed G.number G.table C.recalls plan requests.now) }
+    ensures alike { IfOk result (Alike D.Cache G.number G.table D.recalls plan requests.now) }
+    ensures agreement { Agreement G C D G.Chain C.Cache D.Cache G.number G.table C.recalls D.recalls }
 {
     let mut rack = Rack::new(heap)?;
     let mut store = Store::begin(plan, chain, cache);
     let served = serve_all(heap, &mut store, &mut rack, requests);
     rack.give_back(&mut store);
-    Ok(Replay {
+    Ok(Transcript {
         store,
         answers: served?,
     })

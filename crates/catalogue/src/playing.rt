@@ -4,13 +4,13 @@ use caches::Cache;
 use orders::Chain;
 use store::Store;
 
-mod playing;
+mod replaying;
 
-pub use playing::replay;
+pub use replaying::replay;
 
 // What came of a list of requests: the store, with no hold left on it, and an answer to each request.
 #[derive(Drop)]
-pub struct Replay<G: Chain, C: Cache> {
+pub struct Transcript<G: Chain, C: Cache> {
     pub store: Store<G, C>,
     pub answers: Vec<Answer>,
 }
