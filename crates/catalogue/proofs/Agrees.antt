@@ -1,6 +1,5 @@
 -- Stores agree. Assumes nothing.
-use Rattle.std.proofs.Common.{◌≡◌, ℕ, ◌<◌, ◌≤◌, ◌↔◌, List, [], ◌∷◌, sym, refl, ap, ◌∙◌, subst, arith}
-use Rattle.orders.specs.declared.order.Order.{Order}
+use Rattle.std.proofs.Common.{◌≡◌, ℕ, ◌<◌, ◌≤◌, List, [], ◌∷◌, sym, refl, ap, ◌∙◌, subst, arith}
 use Rattle.orders.specs.Chains.{ChainLaws}
 use Rattle.caches.specs.Recall.{Recalls}
 use Rattle.orders.specs.declared.chain.Chain as chain
@@ -11,7 +10,7 @@ use Rattle.diagrams.proofs.Sets.{one_number}
 use Rattle.tables.proofs.Rows.{sound_of, rows_within}
 use Rattle.store.specs.declared.shapes.Handle.{Handle}
 use Rattle.store.specs.declared.store.Store.{Store}
-use Rattle.store.specs.Views.{View, view}
+use Rattle.store.specs.Views.{view}
 use Rattle.store.proofs.Worked.{handle_there}
 use Rattle.deposits.proofs.Agrees.{sheets_agree}
 use Rattle.catalogue.specs.Calls.{Call, Reply, After, step}

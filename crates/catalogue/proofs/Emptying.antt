@@ -1,5 +1,5 @@
 -- A rack is emptied from its last slot to its first. Assumes nothing.
-use Rattle.std.proofs.Common.{◌≡◌, ℕ, zero, suc, ◌<◌, ◌≤◌, ◌⊎◌, List, [], ◌∷◌, ◌++◌, length, get_or, set, replicate, Some, None, Ok, Option, sym, refl, ap, ◌∙◌, inl, inr, arith, get_or-set_other, get_or-set_same}
+use Rattle.std.proofs.Common.{◌≡◌, ℕ, zero, suc, ◌<◌, ◌⊎◌, [], ◌∷◌, ◌++◌, length, get_or, set, replicate, Some, None, Ok, Option, sym, refl, ap, ◌∙◌, inl, inr, arith, get_or-set_other, get_or-set_same}
 use lib.Seq.{get_or-append_seam}
 use Rattle.std.proofs.lemmas.List.{get_or_past}
 use Rattle.std.proofs.lemmas.Bool.{cases_eq}
@@ -7,7 +7,7 @@ use Rattle.store.specs.declared.hold.Hold.{Hold}
 use Rattle.store.specs.Views.{View, Pegs, with_pegs}
 use Rattle.store.specs.Questions.{held_on}
 use Rattle.store.proofs.Racks.{held_some}
-use Rattle.catalogue.specs.Racks.{Slots, hold_on, Holding, no_pegs, unpegged}
+use Rattle.catalogue.specs.Racks.{Slots, hold_on, Holding, no_pegs}
 use Rattle.catalogue.proofs.Slots.{all_none}
 
 -- the slots below the last

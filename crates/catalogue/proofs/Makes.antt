@@ -1,10 +1,10 @@
 -- One request, as the call that it makes. Assumes nothing.
-use Rattle.std.proofs.Common.{◌≡◌, ℕ, suc, ◌+◌, ◌-◌, ◌^◌, ◌<◌, ◌≤◌, min, Bool, true, false, ◌&&◌, leb, List, [], ◌∷◌, ◌++◌, length, get_or, take, drop, set, Some, None, Ok, Err, vec_items, Option, Result, Vec, sym, refl, ap, ◌∙◌, subst, arith, length-append, le-leb}
+use Rattle.std.proofs.Common.{◌≡◌, ℕ, ◌+◌, ◌-◌, ◌^◌, ◌<◌, ◌≤◌, min, Bool, true, false, leb, List, [], ◌∷◌, ◌++◌, length, get_or, take, drop, set, Some, None, Ok, Err, vec_items, Option, Result, Vec, sym, refl, ap, ◌∙◌, subst, arith, length-append, le-leb}
 use borrow.Author.Tests.{lt-leb}
 use Rattle.std.proofs.lemmas.Bool.Decides.{nat_tests}
 use Rattle.std.specs.declared.alloc.Global.{Global}
 use Rattle.orders.specs.declared.refusal.Refusal.{Refusal}
-use Rattle.orders.specs.declared.refusal.Refusal.TheVariants.{ShortPage, NoSuchHold}
+use Rattle.orders.specs.declared.refusal.Refusal.TheVariants.{NoSuchHold}
 use Rattle.caches.specs.Recall.{Recalls}
 use Rattle.orders.specs.declared.chain.Chain as chain
 use Rattle.caches.specs.declared.Cache as cache
@@ -25,7 +25,7 @@ use Rattle.store.specs.declared.shapes.Handle.{Handle}
 use Rattle.store.specs.declared.shapes.SetCall.{SetCall}
 use Rattle.store.specs.declared.store.Store.{Store}
 use Rattle.store.specs.Views.{View, view, room_of, with_nodes, with_pegs}
-use Rattle.store.specs.Questions.{ask, or_else, handle_asked, order_asked, spot_asked, call_asked, task_of}
+use Rattle.store.specs.Questions.{or_else, handle_asked, order_asked, spot_asked, call_asked, task_of}
 use Rattle.store.specs.Steps as store
 use Rattle.store.specs.Steps.{sets, adds, holds, releases, held, released, released_by, sweep, declined, worked, unless, node_asked, season_asked, entries_if, entries_in, swept_view, left}
 use Rattle.store.specs.Does as Store-Does
@@ -41,13 +41,13 @@ use Rattle.catalogue.specs.declared.request.Answer.{Answer}
 use Rattle.catalogue.specs.declared.request.Answer.TheVariants.{Worked, Added, Held as HeldSo, Released, Returned, Swept, Read as ReadSo}
 use Rattle.catalogue.specs.declared.request.Asked.{Asked}
 use Rattle.catalogue.specs.declared.request.Asked.TheVariants.{Single, Join, Meet, Without, Carry, Follow, Pick}
-use Rattle.catalogue.specs.Calls.{Call, stores, reads, looks, Look, Reply, stored, read, look, as_stored, as_read, sheet_on, fits_on, step}
+use Rattle.catalogue.specs.Calls.{Call, stores, reads, looks, Look, Reply, stored, read, look, as_stored, as_read, sheet_on, fits_on}
 use Rattle.catalogue.specs.Runs.{Does}
 use Rattle.catalogue.specs.Requests.{set_call, spot_fits, names_asked, handle_named, hold_named, call_of, reply_of, entries_of}
 use Rattle.catalogue.specs.Racks.{Slots, Racked, Lacks, Took, hold_on}
 use Rattle.catalogue.specs.Serves.{Works, Serves}
 use Rattle.catalogue.proofs.Slots.{some_within}
-use Rattle.catalogue.proofs.Racking.{racked_same, racked_swept, racked_set, racked_held, racked_lacks, Given, given, taken_back}
+use Rattle.catalogue.proofs.Racking.{racked_same, racked_swept, racked_set, racked_held, racked_lacks, given, taken_back}
 
 module _ {G C : Type 0} {cg : chain.Ghosts G} {cc : cache.Ghosts C} (code : ℕ) (g : Moves) (rc : C → Recalls) where
   -- one of the store's own calls

@@ -1,5 +1,5 @@
 -- Requests, one after another. Assumes nothing.
-use Rattle.std.proofs.Common.{◌≡◌, ℕ, ◌+◌, ◌<◌, ◌≤◌, List, [], ◌∷◌, ◌++◌, map, length, get_or, take, vec_items, sym, refl, ap, ◌∙◌, subst, arith, take_all}
+use Rattle.std.proofs.Common.{◌≡◌, ℕ, ◌+◌, ◌<◌, ◌≤◌, List, [], ◌∷◌, ◌++◌, length, get_or, take, vec_items, sym, ap, ◌∙◌, subst, take_all}
 use Rattle.std.proofs.lemmas.List.{map-append, map_more}
 use Rattle.caches.specs.Recall.{Recalls}
 use Rattle.orders.specs.declared.chain.Chain as chain
@@ -7,8 +7,6 @@ use Rattle.caches.specs.declared.Cache as cache
 use Rattle.diagrams.specs.Moves.{Moves}
 use Rattle.store.specs.declared.plan.Plan.{Plan}
 use Rattle.store.specs.declared.store.Store.{Store}
-use Rattle.store.specs.Views.{View, view}
-use Rattle.store.specs.Does.{Kept, Begun}
 use Rattle.catalogue.specs.declared.request.Request.{Request}
 use Rattle.catalogue.specs.declared.request.Answer.{Answer}
 use Rattle.catalogue.specs.declared.playing.Transcript.{Transcript}

@@ -1,5 +1,5 @@
 -- The holds that a replay has in hand. Assumes nothing.
-use Rattle.std.specs.Prelude.{◌≡◌, ℕ, List, length, get_or, set, replicate, Some, None, vec_items, Option, slice_index_or, slice_set}
+use Rattle.std.specs.Prelude.{◌≡◌, ℕ, List, length, get_or, replicate, Some, None, vec_items, Option, slice_index_or, slice_set}
 use Rattle.store.specs.declared.hold.Hold.{Hold}
 use Rattle.store.specs.Views.{View, Pegs, with_pegs}
 use Rattle.catalogue.specs.declared.rack.Rack.{Rack}

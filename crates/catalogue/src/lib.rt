@@ -1,8 +1,10 @@
 // The catalogue: lists of calls, and what all stores agree on after them.
+#![tactic(auto)]
+
 mod agreement;
 mod naming;
-mod rack;
 mod playing;
+mod rack;
 mod request;
 mod serving;
 

@@ -1,6 +1,6 @@
+// Orders, chains and lines of numbers, run on examples.
 #![tactic(auto)]
 
-// Orders, chains and lines of numbers, run on examples.
 #[cfg(test)]
 mod examples {
     use lines::{fields, first_line, order_of};

@@ -1,6 +1,6 @@
+// Caches and lists at work: what their callers know, and examples that are run.
 #![tactic(auto)]
 
-// Caches and lists at work: what their callers know, and examples that are run.
 #[cfg(test)]
 mod cache_tests;
 pub mod cache_uses;

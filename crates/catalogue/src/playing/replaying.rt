@@ -5,17 +5,15 @@ ghost use Rattle.store.specs.Does.{Kept};
 ghost use Rattle.catalogue.specs.Agreement.{Agreement};
 ghost use Rattle.catalogue.specs.Racks.{Racked, slots_of};
 ghost use Rattle.catalogue.specs.Replays.{Played, Replayed, Alike};
+
 use super::Transcript;
 use crate::rack::Rack;
-use crate::request::Answer;
-use crate::request::Request;
+use crate::request::{Answer, Request};
 use crate::serving::serve;
 use caches::Cache;
 use orders::Chain;
-use std::alloc::AllocError;
-use std::alloc::Global;
-use store::Plan;
-use store::Store;
+use std::alloc::{AllocError, Global};
+use store::{Plan, Store};
 
 // Makes the requests in turn. Where memory runs out the store and the rack are still in order.
 fn serve_all<G: Chain, C: Cache>(

@@ -1,4 +1,4 @@
-use Rattle.std.proofs.Common.{◌≡◌, ap, ◌∙◌}
+use Rattle.std.proofs.Common.{ap, ◌∙◌}
 use Rattle.store.specs.Views.{view}
 use Rattle.store.specs.Questions.{handle_asked}
 use Rattle.store.proofs.Worked.{accepted}

@@ -1,11 +1,9 @@
-use Rattle.std.proofs.Common.{◌≡◌, ◌<◌, length, set, Some, sym, refl, ap, ◌∙◌, subst, arith}
+use Rattle.std.proofs.Common.{Some, sym, ap, ◌∙◌, subst}
 use Rattle.store.specs.declared.hold.Hold.{Hold}
-use Rattle.store.specs.Views.{view, View}
+use Rattle.store.specs.Views.{view}
 use Rattle.store.specs.Holding.{Holds}
-use Rattle.catalogue.specs.Requests.{hold_named}
-use Rattle.catalogue.specs.Racks.{Slots, slots_of, Racked}
-use Rattle.catalogue.proofs.Slots.{some_within}
-use Rattle.catalogue.proofs.Racking.{racked_held, racked_lacks}
+use Rattle.catalogue.specs.Racks.{slots_of}
+use Rattle.catalogue.proofs.Racking.{racked_held}
 use Rattle.catalogue.proofs.Makes.{released_serves, returned_serves}
 use Rattle.catalogue.proofs.serving.release.Goals as goal
 

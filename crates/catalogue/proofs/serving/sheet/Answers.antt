@@ -1,4 +1,4 @@
-use Rattle.std.proofs.Common.{◌≡◌, ℕ, List, length, take, replicate, Ok, Err, Result, ap, ◌∙◌, subst}
+use Rattle.std.proofs.Common.{◌≡◌, ℕ, List, length, replicate, Ok, Result, ap, ◌∙◌, subst}
 use lib.ListN.{length-replicate}
 use Rattle.orders.specs.declared.refusal.Refusal.{Refusal}
 use Rattle.store.specs.declared.shapes.Handle.{Handle}

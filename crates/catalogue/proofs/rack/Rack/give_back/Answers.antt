@@ -1,9 +1,9 @@
-use Rattle.std.proofs.Common.{◌≡◌, ◌<◌, List, [], ◌∷◌, ◌++◌, length, set, Some, None, Option, sym, refl, ap, ◌∙◌, subst, arith}
+use Rattle.std.proofs.Common.{◌≡◌, ◌<◌, [], ◌∷◌, ◌++◌, length, set, None, Option, sym, refl, ap, ◌∙◌, subst, arith}
 use Rattle.store.specs.declared.hold.Hold.{Hold}
 use Rattle.store.specs.Views.{View, view, with_pegs}
 use Rattle.catalogue.specs.Racks.{Slots, Holding}
 use Rattle.catalogue.proofs.Racking.{taken_back}
-use Rattle.catalogue.proofs.Emptying.{gone_none, Last, last_held, gone_some, none_pegged, only_pegs, none_left}
+use Rattle.catalogue.proofs.Emptying.{gone_none, last_held, gone_some, none_pegged, only_pegs, none_left}
 use Rattle.catalogue.proofs.rack.Rack.give_back.Goals as goal
 
 pub loop-slot-init : goal.loop-slot-init

@@ -1,7 +1,7 @@
-use Rattle.std.proofs.Common.{◌≡◌, ◌<◌, true, not, length, get_or, None, ◌∙◌, arith}
+use Rattle.std.proofs.Common.{None, ◌∙◌, arith}
 use Rattle.std.proofs.lemmas.List.{get_or_read}
 use Rattle.catalogue.specs.Racks.{slots_of}
-use Rattle.catalogue.proofs.Slots.{found_there, found_not, some_within, took}
+use Rattle.catalogue.proofs.Slots.{found_there, some_within, took}
 use Rattle.catalogue.proofs.rack.Rack.take.Goals as goal
 
 pub index_mut-requires : goal.index_mut-requires
