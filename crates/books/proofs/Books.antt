@@ -1,6 +1,6 @@
 -- What is accepted is what would be written. Assumes nothing.
 use Rattle.std.proofs.Common.{◌≡◌, ℕ, zero, suc, ◌+◌, ◌<◌, ◌≤◌, Bool, true, false, ◌&&◌, ltb, List, [], ◌∷◌, ◌++◌, map, length, get_or, take, drop, IsErrAnd, Ok, Err, Result, sym, refl, ap, ◌∙◌, subst, ap₂, append_assoc, append-nil, arith, length-append, ltb-true, lt-ltb}
-use Rattle.std.specs.List.{flat_map, AllByRecursion as All}
+use Rattle.std.specs.List.{flat_map, AllByRecursion}
 use Rattle.std.specs.Str.{bytes_eq}
 use Rattle.std.proofs.lemmas.Slice.Eq.{bytes_eq-Decides}
 use Rattle.std.proofs.lemmas.List.{take-append-drop}
@@ -56,7 +56,7 @@ module _ (b : Book) (fair : Fair b) (room : ℕ) where
       let ns = take b.pieces (row_of o) in
       length-append (line ns) rest ∙ ap (λ n. n + length rest) (length-append (written ns) (10 ∷ []))
 
-  pub rows_written : (k : ℕ) (cs : List ℕ) (os : List Order) → All (λ o. dimension o ≤ b.pieces) os → length cs + length os ≤ room →
+  pub rows_written : (k : ℕ) (cs : List ℕ) (os : List Order) → AllByRecursion (λ o. dimension o ≤ b.pieces) os → length cs + length os ≤ room →
       length (flat_map (order_line b.pieces) os) ≤ k → rows k b room cs (flat_map (order_line b.pieces) os) ≡ (cs ++ codes_of os, Ok b)
   rows_written k cs [] d l h = rows_end k b room cs [] refl ∙ ap (λ (l : List ℕ). (l, Ok b)) (sym (append-nil cs))
   rows_written zero cs (o ∷ os) d l h = absurd (omega (arith, lines-length o (flat_map (order_line b.pieces) os)))
@@ -71,7 +71,7 @@ module _ (b : Book) (fair : Fair b) (room : ℕ) where
 -- orders that were read are written so
 pub record Orders (b : Book) (room : ℕ) (cs text now : List ℕ) : Type 0 where
   pub orders : List Order
-  pub within : All (λ o. dimension o ≤ b.pieces) orders
+  pub within : AllByRecursion (λ o. dimension o ≤ b.pieces) orders
   pub codes : now ≡ cs ++ codes_of orders
   pub fits : length cs + length orders ≤ room
   pub bytes : text ≡ flat_map (order_line b.pieces) orders

@@ -1,7 +1,7 @@
 -- Rows of numbers and the orders that they write out. Assumes nothing.
 use Rattle.std.proofs.Common.{◌≡◌, ℕ, zero, suc, ◌-◌, ◌^◌, ◌<◌, ◌≤◌, Bool, true, false, not, ◌&&◌, ◌||◌, eqb, List, map, length, get_or, take, sym, refl, ap, ◌∙◌, subst, ap₂, true≢false, arith, get_or-take, eq-eqb, eqb-true, le-leb}
 use native.Mathlib.Decide.{dec_lt}
-use Rattle.std.specs.List.{range_with_len, AllByRecursion as All}
+use Rattle.std.specs.List.{range_with_len, AllByRecursion}
 use Rattle.std.proofs.lemmas.List.{get_or_default, get_or_past}
 use Rattle.std.proofs.ByRecursion.{All-from_get_or}
 use Rattle.std.proofs.lemmas.List.FromFn.{length-map-range_with_len, take-map-range_with_len, fill_by_all}
@@ -122,7 +122,7 @@ module _ (o : Order) (n : ℕ) (some : 1 ≤ n) (few : n ≤ 16) where
       subst (λ m. Writes (take n (row_of o)) m o) (sym front_length)
       (front_writes (take n (row_of o)) n o some few (λ j h. sym (front_at j h)) (λ k l. dimension_still o k (omega arith)))
 
-  pub front_values : All (λ v. v < 10 ^ 14) (take n (row_of o))
+  pub front_values : AllByRecursion (λ v. v < 10 ^ 14) (take n (row_of o))
   front_values = All-from_get_or (λ v. v < 10 ^ 14) (take n (row_of o)) 0 (λ j h.
       let l : j < n = omega (arith, front_length) in
       omega (arith, front_at j l, place_piece o (suc j) (omega arith) (omega arith)))

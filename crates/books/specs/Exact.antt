@@ -1,6 +1,6 @@
 -- Which bytes are accepted: those of a book. Assumes nothing.
 use Rattle.std.specs.Prelude.{◌≡◌, ℕ, ◌≤◌, List, map, length, Ok, Err, Result}
-use Rattle.std.specs.List.{AllByRecursion as All}
+use Rattle.std.specs.List.{AllByRecursion}
 use Rattle.orders.specs.declared.order.Order.{Order}
 use Rattle.orders.specs.Dimension.{dimension}
 use Rattle.sheets.specs.declared.fault.Fault.{Fault}
@@ -13,7 +13,7 @@ pub record IsBook (text : List ℕ) (b : Book) (os : List Order) : Type 0 where
   pub pieces_max : b.pieces ≤ 16
   pub chain_min : 1 ≤ b.chain
   pub chain_max : b.chain ≤ 2
-  pub within : All (λ o. dimension o ≤ b.pieces) os
+  pub within : AllByRecursion (λ o. dimension o ≤ b.pieces) os
   pub bytes : text ≡ book_bytes b.pieces b.chain os
 
 -- accepted: the text is the book of some orders, and the list has just their codes, in turn; refused: it is no book that the list has room for

@@ -28,7 +28,7 @@ use Rattle.store.specs.Views.{View, view, room_of, with_nodes, with_pegs}
 use Rattle.store.specs.Questions.{or_else, handle_asked, order_asked, spot_asked, call_asked, task_of}
 use Rattle.store.specs.Steps as store
 use Rattle.store.specs.Steps.{sets, adds, holds, releases, held, released, released_by, sweep, declined, worked, unless, node_asked, season_asked, entries_if, entries_in, swept_view, left}
-use Rattle.store.specs.Does as Store-Does
+use Rattle.store.specs.Does as StoreDoes
 use Rattle.store.specs.Does.{Kept, handle_reply, sweep_reply}
 use Rattle.deposits.specs.Writing.{sheet_text, WritesIf, Writes}
 use Rattle.deposits.specs.Reading as deposits
@@ -51,7 +51,7 @@ use Rattle.catalogue.proofs.Racking.{racked_same, racked_swept, racked_set, rack
 
 module _ {G C : Type 0} {cg : chain.Ghosts G} {cc : cache.Ghosts C} (code : ℕ) (g : Moves) (rc : C → Recalls) where
   -- one of the store's own calls
-  pub stored_does : {s t : Store G C cg cc} {call : store.Call} {reply : store.Reply} {n : ℕ} → Store-Does.Does g rc s call t reply n → Does code g rc s (stores call) t (stored reply) n
+  pub stored_does : {s t : Store G C cg cc} {call : store.Call} {reply : store.Reply} {n : ℕ} → StoreDoes.Does g rc s call t reply n → Does code g rc s (stores call) t (stored reply) n
   stored_does d = record { after = ap as_stored d.after; kept = d.kept; most = d.most; just = d.just }
 
   -- a sheet is read
@@ -87,7 +87,7 @@ names_no w (Follow a b) e h = h
 names_no w (Pick a k p) e h = pick_no w (handle_asked w (handle_named a)) k p e h
 
 -- a call that a question declines leaves the store as it was
-pub declined_does : {G C : Type 0} {cg : chain.Ghosts G} {cc : cache.Ghosts C} (g : Moves) (rc : C → Recalls) (s : Store G C cg cc) (call : SetCall) (e : Refusal) → call_asked (view s) call ≡ Some e → Kept g rc s → Store-Does.Does g rc s (sets call) s (declined e) 0
+pub declined_does : {G C : Type 0} {cg : chain.Ghosts G} {cc : cache.Ghosts C} (g : Moves) (rc : C → Recalls) (s : Store G C cg cc) (call : SetCall) (e : Refusal) → call_asked (view s) call ≡ Some e → Kept g rc s → StoreDoes.Does g rc s (sets call) s (declined e) 0
 declined_does g rc s call e h k =
     let w = view s in
     let o = task g (room_of w) w.nodes (task_of call) in
@@ -190,13 +190,13 @@ module _ (code : ℕ) (w : View) (h : Handle) (before after : List ℕ) (q : han
 
 -- a hold that is in hand is given back
 pub released_serves : {G C : Type 0} {cg : chain.Ghosts G} {cc : cache.Ghosts C} (code : ℕ) (g : Moves) (rc : C → Recalls) (s t : Store G C cg cc) (R R' : Slots) (c : Claim) (d : Hold) → length (view s).pegs ≡ 64 → Racked (view s) R → Took R R' c d
-    → Store-Does.Does g rc s (releases d) t released 0 → Serves code g rc s (Release c) t R' Released
+    → StoreDoes.Does g rc s (releases d) t released 0 → Serves code g rc s (Release c) t R' Released
 released_serves code g rc s t R R' c d long k took does =
     let w = view s in
     let there : get_or R c.peg None ≡ Some (hold_named c) = took.there ∙ ap Some took.hold in
     let h = racked_held w R k c there in
     let lt : c.peg < 64 = omega (arith, some_within R c.peg _ there, k.long) in
-    let is : Store-Does.Does g rc s (releases (hold_named c)) t released 0 = subst (λ (x : Hold). Store-Does.Does g rc s (releases x) t released 0) took.hold does in
+    let is : StoreDoes.Does g rc s (releases (hold_named c)) t released 0 = subst (λ (x : Hold). StoreDoes.Does g rc s (releases x) t released 0) took.hold does in
     let after = taken_back g w (view t) (hold_named c) h.0 h.1 is.after in
     record {
       does = stored_does code g rc is;
@@ -218,12 +218,12 @@ returned_serves code g rc s R R' c kept k lacks same = record {
 
 -- a set is held, and the hold is in hand
 pub held_serves : {G C : Type 0} {cg : chain.Ghosts G} {cc : cache.Ghosts C} (code : ℕ) (g : Moves) (rc : C → Recalls) (s t : Store G C cg cc) (R R' : Slots) (n : Name) (h : Handle) (p : ℕ) (d : Hold) (c : Claim)
-    → length (view s).pegs ≡ 64 → Racked (view s) R → h ≡ handle_named n → Store-Does.Does g rc s (holds h p) t (held d) 0 → R' ≡ set R p (Some d) → hold_named c ≡ d
+    → length (view s).pegs ≡ 64 → Racked (view s) R → h ≡ handle_named n → StoreDoes.Does g rc s (holds h p) t (held d) 0 → R' ≡ set R p (Some d) → hold_named c ≡ d
     → Serves code g rc s (HoldOn n p) t R' (HeldSo (Ok c))
 held_serves code g rc s t R R' n h p d c long k e does slots claim =
     let w = view s in
     let it = given g w (view t) h p d does.after in
-    let is : Store-Does.Does g rc s (holds (handle_named n) p) t (held d) 0 = subst (λ (x : Handle). Store-Does.Does g rc s (holds x p) t (held d) 0) e does in
+    let is : StoreDoes.Does g rc s (holds (handle_named n) p) t (held d) 0 = subst (λ (x : Handle). StoreDoes.Does g rc s (holds x p) t (held d) 0) e does in
     let into : R' ≡ set R p (hold_on w.plan.mark p (Some h.number)) = slots ∙ ap (λ (x : Hold). set R p (Some x)) it.hold in
     record {
       does = subst (λ (x : Hold). Does code g rc s (stores (holds (handle_named n) p)) t (stored (held x)) 0) (sym claim) (stored_does code g rc is);
@@ -238,10 +238,10 @@ module _ {G C : Type 0} {cg : chain.Ghosts G} {cc : cache.Ghosts C} (code : ℕ)
   pub work_serves : (t : Store G C cg cc) (a : Asked) (r : Result Found Refusal) → Works g rc s a t r → Serves code g rc s (Work a) t R (Worked r)
   work_serves t a r d = record { does = stored_does code g rc d; racked = after_sets g (view s) (view t) R k (set_call a) d.after }
 
-  pub add_serves : (t : Store G C cg cc) (x y lo hi : ℕ) (r : Result Handle Refusal) → Store-Does.Does g rc s (adds x y lo hi) t (handle_reply r) 0 → Serves code g rc s (Add x y lo hi) t R (Added r)
+  pub add_serves : (t : Store G C cg cc) (x y lo hi : ℕ) (r : Result Handle Refusal) → StoreDoes.Does g rc s (adds x y lo hi) t (handle_reply r) 0 → Serves code g rc s (Add x y lo hi) t R (Added r)
   add_serves t x y lo hi r d = record { does = stored_does code g rc d; racked = after_adds g (view s) (view t) R k x y lo hi d.after }
 
-  pub sweep_serves : (t : Store G C cg cc) (r : Result ℕ Refusal) → Store-Does.Does g rc s sweep t (sweep_reply r) 0 → Serves code g rc s Sweep t R (Swept r)
+  pub sweep_serves : (t : Store G C cg cc) (r : Result ℕ Refusal) → StoreDoes.Does g rc s sweep t (sweep_reply r) 0 → Serves code g rc s Sweep t R (Swept r)
   sweep_serves t r d = record { does = stored_does code g rc d; racked = after_sweep g (view s) (view t) R k d.after }
 
   pub read_serves : (t : Store G C cg cc) (text : Bytes) (r : Result Handle Fault) → ◌≡◌ {A = View × Result Handle Fault} (view t, r) (deposits.reads code (view s) (vec_items text)) → Kept g rc t → Serves code g rc s (Read text) t R (ReadSo r)

@@ -1,6 +1,6 @@
 -- Worked examples over the definitions, by the swap chain: tables of them, and what each row of a table has to say. Assumes nothing.
 use Rattle.std.specs.Prelude.{◌≡◌, ℕ, zero, suc, List, [], ◌∷◌, ◌++◌, map}
-use Rattle.std.specs.List.{AllByRecursion as All}
+use Rattle.std.specs.List.{AllByRecursion}
 use Rattle.orders.specs.declared.order.Order.{Order}
 use Rattle.orders.specs.Orders.{place, then}
 use Rattle.orders.specs.Dimension.{dimension}
@@ -114,7 +114,7 @@ works =
 
 -- Every row of each table.
 pub record ExamplesStand : Type 0 where
-  pub level_rows : All Leveled levels
-  pub order_rows : All Written orders
-  pub set_rows : All Holds sets
-  pub work_rows : All ComesOut works
+  pub level_rows : AllByRecursion Leveled levels
+  pub order_rows : AllByRecursion Written orders
+  pub set_rows : AllByRecursion Holds sets
+  pub work_rows : AllByRecursion ComesOut works

@@ -2,19 +2,19 @@
 use Rattle.std.proofs.Common.{◌≡◌, ℕ, zero, suc, ◌+◌, ◌-◌, ◌*◌, ◌^◌, ◌<◌, ◌≤◌, List, [], ◌∷◌, ◌++◌, length, get_or, take, drop, decimal, sym, refl, ap, ◌∙◌, subst, arith, rules}
 use Rattle.std.proofs.lemmas.List.{drop_more, drop_all, take_more, length-take}
 use Rattle.std.proofs.ByRecursion.{All-take}
-use Rattle.std.specs.List.{AllByRecursion as All}
+use Rattle.std.specs.List.{AllByRecursion}
 use Rattle.std.proofs.lemmas.Str.Parse.{IsNumeralModel, numerals_by_fold, digits_value_short}
 use Rattle.std.proofs.lemmas.Fmt.{digits_decimal, decimal-digits_value, decimal_digit, decimal_nonempty, first_decimal, length-decimal-le, decimal_injective}
 use Rattle.lines.specs.Format.{Digit, Ends, Plain, read_on, more}
 
-pub own : IsNumeralModel (All Digit) (read_on 0)
+pub own : IsNumeralModel (AllByRecursion Digit) (read_on 0)
 own = numerals_by_fold _ (search rules) read_on (search rules)
 
 pub below_64 : (n : ℕ) → n < 10 ^ 14 → n < 2 ^ 64
 below_64 n h = omega arith
 
 -- a text has one front of digits
-pub split : (ds es a b : List ℕ) → All Digit ds → All Digit es → Ends a → Ends b → ds ++ a ≡ es ++ b → (ds ≡ es) × (a ≡ b)
+pub split : (ds es a b : List ℕ) → AllByRecursion Digit ds → AllByRecursion Digit es → Ends a → Ends b → ds ++ a ≡ es ++ b → (ds ≡ es) × (a ≡ b)
 split [] [] a b p q u v e = (refl, e)
 split [] (y ∷ es) [] b p q u v e = let l : ◌≡◌ {A = ℕ} 0 (suc (length (es ++ b))) = ap length e in absurd (omega arith)
 split [] (y ∷ es) (x ∷ a) b p q u v e = absurd (u (subst Digit (sym (ap (λ l. get_or l 0 0) e)) q.0))
@@ -25,7 +25,7 @@ split (x ∷ ds) (y ∷ es) a b p q u v e =
     let f : x ≡ y = ap (λ l. get_or l 0 0) e in
     ((λ i. f i ∷ h.0 i), h.1)
 
-pub digits_of : (n : ℕ) → n < 10 ^ 14 → All Digit (decimal n)
+pub digits_of : (n : ℕ) → n < 10 ^ 14 → AllByRecursion Digit (decimal n)
 digits_of n h = digits_decimal own n (below_64 n h)
 
 pub plain_decimal : (n : ℕ) → n < 10 ^ 14 → Plain (decimal n)
@@ -37,7 +37,7 @@ plain_decimal (suc n) h = (
 )
 
 -- digits as they are printed are those of their number
-pub decimal_back : (ds : List ℕ) → All Digit ds → Plain ds → (decimal (read_on 0 ds) ≡ ds) × (read_on 0 ds < 10 ^ 14)
+pub decimal_back : (ds : List ℕ) → AllByRecursion Digit ds → Plain ds → (decimal (read_on 0 ds) ≡ ds) × (read_on 0 ds < 10 ^ 14)
 decimal_back ds p q =
     let small : read_on 0 ds < 10 ^ 14 = digits_value_short own ds 14 p q.1 in
     (decimal-digits_value own ds p q.0 q.2 (below_64 _ small), small)
@@ -56,13 +56,13 @@ read_on_push n (d ∷ ds) c = read_on_push (n * 10 + (d - 48)) ds c
 pub read_on_more : (ds : List ℕ) (i : ℕ) → i < length ds → read_on 0 (take (i + 1) ds) ≡ read_on 0 (take i ds) * 10 + (get_or ds i 0 - 48)
 read_on_more ds i h = ap (read_on 0) (take_more ds i 0 h) ∙ read_on_push 0 (take i ds) (get_or ds i 0)
 
-pub read_on_small : (ds : List ℕ) (i : ℕ) → All Digit ds → length ds ≤ 14 → read_on 0 (take i ds) < 10 ^ 14
+pub read_on_small : (ds : List ℕ) (i : ℕ) → AllByRecursion Digit ds → length ds ≤ 14 → read_on 0 (take i ds) < 10 ^ 14
 read_on_small ds i p h = digits_value_short own (take i ds) 14 (All-take Digit i ds p) (simp length-take (omega arith))
 
 -- the text is cut after the digits in front
 pub record Front (text ds after : List ℕ) : Type 0 where
   pub joined : text ≡ ds ++ after
-  pub digits : All Digit ds
+  pub digits : AllByRecursion Digit ds
   pub stops : Ends after
 
 module _ {text ds after : List ℕ} (f : Front text ds after) where

@@ -3,7 +3,7 @@ use Rattle.std.proofs.Common.{◌≡◌, ℕ, ◌^◌, ◌<◌, ◌≤◌, Bool,
 use borrow.Author.Tests.{eqb-false}
 use lib.ListN.{length-map}
 use Rattle.std.specs.Option.{option_map}
-use Rattle.std.specs.List.{AllByRecursion as All}
+use Rattle.std.specs.List.{AllByRecursion}
 use Rattle.std.specs.Str.{bytes_eq}
 use Rattle.std.proofs.lemmas.Slice.Eq.{bytes_eq-Decides}
 use Rattle.std.proofs.lemmas.Fmt.{digits_value-decimal}
@@ -47,7 +47,7 @@ words_last [] h = refl
 words_last (c ∷ w) h = ap₂ (λ (b : Bool) (ws : List (List ℕ)). word_by b c ws) (ne_eqb c 32 h.0) (words_last w h.1)
 
 -- digits are no blanks, and end no line
-digits_no : (b : ℕ) → b < 48 → (ds : List ℕ) → All Digit ds → Without b ds
+digits_no : (b : ℕ) → b < 48 → (ds : List ℕ) → AllByRecursion Digit ds → Without b ds
 digits_no b h [] d = tt
 digits_no b h (c ∷ ds) d = (λ e. omega (arith, d.0.0), digits_no b h ds d.1)
 

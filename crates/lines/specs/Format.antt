@@ -1,7 +1,7 @@
 -- The text of a number and of a line. Assumes nothing.
 use Rattle.std.specs.Prelude.{◌≡◌, ℕ, ◌+◌, ◌-◌, ◌*◌, ◌^◌, ◌<◌, ◌≤◌, List, [], ◌∷◌, ◌++◌, length, decimal, ◌≢◌, slice_index}
 use Rattle.std.specs.Int.{IsInRange}
-use Rattle.std.specs.List.{AllByRecursion as All}
+use Rattle.std.specs.List.{AllByRecursion}
 
 abbrev pub Digit : ℕ → Type 0
 Digit c = IsInRange 48 57 c
@@ -36,8 +36,8 @@ line ns = written ns ++ 10 ∷ []
 
 -- each is below 10^14
 abbrev pub Values : List ℕ → Type 0
-Values ns = All (λ n. n < 10 ^ 14) ns
+Values ns = AllByRecursion (λ n. n < 10 ^ 14) ns
 
 -- the byte stands nowhere in the text
 abbrev pub Without : ℕ → List ℕ → Type 0
-Without b bs = All (λ c. c ≢ b) bs
+Without b bs = AllByRecursion (λ c. c ≢ b) bs

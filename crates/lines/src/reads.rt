@@ -1,6 +1,6 @@
 // Lines and their numbers, read from bytes.
 ghost use Rattle.std.specs.Prelude.{◌≡◌, ℕ, ◌+◌, ◌^◌, ◌<◌, ◌≤◌, List, [], ◌∷◌, ◌++◌, length, take, drop, decimal, Decides, MatchOption, ◌≢◌};
-ghost use Rattle.std.specs.List.{AllByRecursion as All};
+ghost use Rattle.std.specs.List.{AllByRecursion};
 ghost use Rattle.lines.specs.Format.{Digit, Ends, Plain, read_on, more, written, Values, Without};
 ghost use Rattle.lines.specs.Held.{held, Fits};
 
@@ -9,7 +9,7 @@ use super::numbers::Fields;
 // How many digits stand at the front of the text.
 fn digit_count(text: &[u8]) -> usize
     ensures within { result ≤ length text.now }
-    ensures digits { All Digit (take result text.now) }
+    ensures digits { AllByRecursion Digit (take result text.now) }
     ensures stops { Ends (drop result text.now) }
 {
     let mut n = 0;
@@ -33,7 +33,7 @@ fn is_plain(digits: &[u8]) -> bool
 // The number that the digits write.
 fn value_of(digits: &[u8]) -> u64
     requires few { length digits.now ≤ 14 }
-    requires digits { All Digit digits.now }
+    requires digits { AllByRecursion Digit digits.now }
     ensures { result ≡ read_on 0 digits.now }
 {
     let mut n: u64 = 0;

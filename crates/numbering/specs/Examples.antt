@@ -1,6 +1,6 @@
 -- Worked examples of numbers, by swaps and by rotations, computed from the definitions. Assumes nothing.
 use Rattle.std.specs.Prelude.{◌≡◌, ℕ, List, [], ◌∷◌, Some, None, Option}
-use Rattle.std.specs.List.{AllByRecursion as All}
+use Rattle.std.specs.List.{AllByRecursion}
 use Rattle.orders.specs.declared.order.Order.{Order}
 use Rattle.orders.specs.Tables.{swap, rotation}
 use Rattle.orders.specs.Named.{order}
@@ -25,7 +25,7 @@ rows_of (Some o) = row o ∷ []
 abbrev pub Fetches : Fetch → Type 0
 Fetches f = rows_of (order_at f.moves f.table f.set f.number) ≡ f.due
 
--- All orders of three pieces are one table by both chains: three nodes, and the set is number 4.
+-- AllByRecursion orders of three pieces are one table by both chains: three nodes, and the set is number 4.
 abbrev pub fetched : List Fetch
 fetched =
     -- number 4 is (3,2,1) by swaps, and (2,3,1) by rotations
@@ -59,5 +59,5 @@ placed =
 
 -- Every row of both tables.
 pub record ExamplesStand : Type 0 where
-  pub fetch_rows : All Fetches fetched
-  pub place_rows : All Places placed
+  pub fetch_rows : AllByRecursion Fetches fetched
+  pub place_rows : AllByRecursion Places placed

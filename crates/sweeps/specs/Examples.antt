@@ -1,6 +1,6 @@
 -- Worked examples of Sweeps, computed from the definitions. Assumes nothing.
 use Rattle.std.specs.Prelude.{◌≡◌, ℕ, List, [], ◌∷◌, ◌++◌, Some, None, Option}
-use Rattle.std.specs.List.{AllByRecursion as All}
+use Rattle.std.specs.List.{AllByRecursion}
 use Rattle.diagrams.specs.declared.Node.{Node}
 use Rattle.diagrams.specs.Examples.{nd, all_six}
 use Rattle.sweeps.specs.Sweeping.{swept, pegs_after}
@@ -31,4 +31,4 @@ swepts =
 
 -- Every row of the table.
 abbrev pub ExamplesStand : Type 0
-ExamplesStand = All Sweeps swepts
+ExamplesStand = AllByRecursion Sweeps swepts
