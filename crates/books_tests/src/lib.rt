@@ -1,3 +1,5 @@
+#![tactic(auto)]
+
 // Row books, good and damaged.
 #[cfg(test)]
 mod examples {

@@ -1,10 +1,10 @@
 // A hold on a peg of a store.
-ghost use Rattle.std.specs.Prelude.{◌≡◌};
+ghost use Rattle.std.specs.Prelude.{◌≡◌, ◌≤◌};
 
 use orders::Refusal;
 
 // What keeps a set on its peg over sweeps. It must be given back by `release`: letting it go is refused, since its `drop`
-// asks for what nobody can show.
+// asks for what nobody can show. Every hold is on one of the 64 pegs, 0 to 63: only a store makes holds.
 pub struct Hold {
     pub(crate) mark: u32,
     pub(crate) peg: u64,
@@ -12,7 +12,7 @@ pub struct Hold {
 
 impl Drop for Hold {
     fn drop(self)
-        requires { ⊥ }
+        requires { 64 ≤ self.peg }
     {
         let Hold { mark: _, peg: _ } = self;
     }
