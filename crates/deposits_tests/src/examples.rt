@@ -22,8 +22,8 @@ fn order(a: u8, b: u8, c: u8) -> Result<Order, Fail> {
 
 // All orders of three pieces.
 fn all_six<G: Chain, C: Cache>(store: &mut Store<G, C>) -> Result<Handle, Fail>
-    requires { Kept table recalls store.old }
-    ensures { Kept table recalls store.new }
+    requires { Kept G.table C.recalls store.old }
+    ensures { Kept G.table C.recalls store.new }
 {
     let first = store.single(order(2, 1, 3)?)?;
     let second = store.single(order(1, 3, 2)?)?;

@@ -12,7 +12,7 @@ answered (answer r) = Some r
 answered (make x y lo hi k) = None
 answered (enter t k) = None
 
--- that, of a task's rule (`outright-is` in proofs/): it asks nothing of the table
+-- that, of a task's rule (`outright_is` in proofs/): it asks nothing of the table
 abbrev pub outright : Task → Option ℕ
 outright (Join a b) = cond (a == 0) (Some b) (cond (b == 0 || a == b) (Some a) None)
 outright (Meet a b) = cond (a == 0 || b == 0) (Some 0) (cond (a == b) (Some a) None)

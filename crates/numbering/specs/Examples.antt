@@ -25,7 +25,7 @@ rows_of (Some o) = row o ∷ []
 abbrev pub Fetches : Fetch → Type 0
 Fetches f = rows_of (order_at f.moves f.table f.set f.number) ≡ f.due
 
--- AllByRecursion orders of three pieces are one table by both chains: three nodes, and the set is number 4.
+-- All orders of three pieces are one table by both chains: three nodes, and the set is number 4.
 abbrev pub fetched : List Fetch
 fetched =
     -- number 4 is (3,2,1) by swaps, and (2,3,1) by rotations

@@ -31,8 +31,8 @@ fn and_order<G: Chain, C: Cache>(
     set: Handle,
     order: Order,
 ) -> Result<Handle, Fail>
-    requires { Kept table recalls store.old }
-    ensures { Kept table recalls store.new }
+    requires { Kept G.table C.recalls store.old }
+    ensures { Kept G.table C.recalls store.new }
 {
     let single = store.single(order)?;
     let joined = store.join(set, single.handle)?;
@@ -41,8 +41,8 @@ fn and_order<G: Chain, C: Cache>(
 
 // All orders of three pieces.
 fn all_six<G: Chain, C: Cache>(store: &mut Store<G, C>) -> Result<Handle, Fail>
-    requires { Kept table recalls store.old }
-    ensures { Kept table recalls store.new }
+    requires { Kept G.table C.recalls store.old }
+    ensures { Kept G.table C.recalls store.new }
 {
     let two = store.standing_set();
     let two = and_order(store, two, order(2, 1, 3)?)?;
@@ -54,8 +54,8 @@ fn all_six<G: Chain, C: Cache>(store: &mut Store<G, C>) -> Result<Handle, Fail>
 
 // The examples of sets, by any chain and cache.
 fn sets_are_right<G: Chain, C: Cache>(rt: &impl Abort, store: &mut Store<G, C>) -> Result<(), Fail>
-    requires { Kept table recalls store.old }
-    ensures { Kept table recalls store.new }
+    requires { Kept G.table C.recalls store.old }
+    ensures { Kept G.table C.recalls store.new }
 {
     let six = all_six(store)?;
     assert!(rt; store.count(six)? == 6);
@@ -214,8 +214,8 @@ fn swept_on_peg<G: Chain, C: Cache>(
     set: Handle,
     peg: u64,
 ) -> Result<(Handle, usize), Refusal>
-    requires { Kept table recalls store.old }
-    ensures { Kept table recalls store.new }
+    requires { Kept G.table C.recalls store.old }
+    ensures { Kept G.table C.recalls store.new }
 {
     let hold = store.hold(set, peg)?;
     let left = store.sweep();
@@ -227,8 +227,8 @@ fn swept_on_peg<G: Chain, C: Cache>(
 
 // Whether a set cannot be put on a peg, by the refusal with this number.
 fn not_held<G: Chain, C: Cache>(store: &mut Store<G, C>, set: Handle, peg: u64, number: u8) -> bool
-    requires { Kept table recalls store.old }
-    ensures { Kept table recalls store.new }
+    requires { Kept G.table C.recalls store.old }
+    ensures { Kept G.table C.recalls store.new }
 {
     match store.hold(set, peg) {
         Ok(hold) => {

@@ -1,4 +1,4 @@
--- Worked examples of Sweeps, computed from the definitions. Assumes nothing.
+-- Worked examples of sweeps, computed from the definitions. Assumes nothing.
 use Rattle.std.specs.Prelude.{◌≡◌, ℕ, List, [], ◌∷◌, ◌++◌, Some, None, Option}
 use Rattle.std.specs.List.{AllByRecursion}
 use Rattle.diagrams.specs.declared.Node.{Node}
