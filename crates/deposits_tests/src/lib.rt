@@ -1,3 +1,5 @@
 // Sheets written from stores and read into others.
+#![tactic(auto)]
+
 #[cfg(test)]
 mod examples;

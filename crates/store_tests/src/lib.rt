@@ -1,3 +1,5 @@
 // The store, run on examples with both chains and both caches.
+#![tactic(auto)]
+
 #[cfg(test)]
 mod examples;
