@@ -78,11 +78,11 @@ racked_held w R k c e =
 -- and no other is
 lacked_by : (w : View) (R : Slots) → Racked w R → (c : Claim) → Lacks R c → (b : Bool) → eqb c.mark w.plan.mark && ltb c.peg 64 ≡ b
     → (o : Option ℕ) → get_or w.pegs c.peg None ≡ o → on_peg b o ≡ Err NoSuchHold
-lacked_by w R k c no-hold false t o e = refl
-lacked_by w R k c no-hold true t None e = refl
-lacked_by w R k c no-hold true t (Some n) e =
+lacked_by w R k c no_hold false t o e = refl
+lacked_by w R k c no_hold true t None e = refl
+lacked_by w R k c no_hold true t (Some n) e =
     let m : w.plan.mark ≡ c.mark = grind (arith, nat_tests) in
-    absurd (no-hold (k.each c.peg ∙ ap (hold_on w.plan.mark c.peg) e ∙ ap (λ i. Some (record { mark = i; peg = c.peg })) m))
+    absurd (no_hold (k.each c.peg ∙ ap (hold_on w.plan.mark c.peg) e ∙ ap (λ i. Some (record { mark = i; peg = c.peg })) m))
 
 pub racked_lacks : (w : View) (R : Slots) → Racked w R → (c : Claim) → Lacks R c → held_on w c.mark c.peg ≡ Err NoSuchHold
 unfolding held_on

@@ -133,8 +133,8 @@ module _ (g : Moves) (laws : ChainLaws g) where
       absurd (false≢true (sym (h r.0) ∙ r.1))
   canon (branch x y a c) one w z h = absurd (not_one x y a c w (λ o m. sym (h o) ∙ m))
   canon (branch x y a c) (branch u v b d) w z h =
-      let back-h = λ (o : Order). sym (h o) in
+      let back_h = λ (o : Order). sym (h o) in
       let t = one_top x y a c u v b d w z h in
-      let p = canon a b w.1.0 z.1.0 (λ o. both_ways _ _ (lows x y a c u v b d w z h o) (lows u v b d x y a c z w back-h o)) in
-      let q = canon c d w.1.1 z.1.1 (λ o. both_ways _ _ (highs x y a c u v b d w z h o) (highs u v b d x y a c z w back-h o)) in
+      let p = canon a b w.1.0 z.1.0 (λ o. both_ways _ _ (lows x y a c u v b d w z h o) (lows u v b d x y a c z w back_h o)) in
+      let q = canon c d w.1.1 z.1.1 (λ o. both_ways _ _ (highs x y a c u v b d w z h o) (highs u v b d x y a c z w back_h o)) in
       cc (t.0, t.1)

@@ -82,14 +82,14 @@ module _ (N : List Node) (orders : ℕ) (rest : List ℕ) where
     finish_off h = then_off ∙ asked_no _ _ _ (ap not (lt-ltb O (length N) (omega arith))) ∙ ap (λ n. Err (misnumbered (n + 4))) (sym is)
 
     module _ (h : length N ≤ o) where
-      then-count : finish N orders rest ≡ counted
-      then-count = then_off ∙ asked_yes _ _ _ (ap not (le-ltb O (length N) (omega arith)))
+      then_count : finish N orders rest ≡ counted
+      then_count = then_off ∙ asked_yes _ _ _ (ap not (le-ltb O (length N) (omega arith)))
 
       pub finish_count : counts N orders ≡ false → finish N orders rest ≡ Err wrong_count
-      finish_count e = then-count ∙ asked_no _ _ _ e
+      finish_count e = then_count ∙ asked_no _ _ _ e
 
       pub finish_ok : counts N orders ≡ true → finish N orders rest ≡ Ok record { root = root_of N orders; orders = orders }
-      finish_ok e = then-count ∙ asked_yes _ _ _ e
+      finish_ok e = then_count ∙ asked_yes _ _ _ e
 
 -- a fault that is passed on
 pub fault_is : {A : Type 0} (f : Fault) (r : Result A Fault) → IsErrAnd r (λ y. y ≡ f) → r ≡ Err f

@@ -7,7 +7,7 @@ use Rattle.diagrams.specs.Moves.{Moves}
 use Rattle.diagrams.specs.Table.{Sound}
 use Rattle.sweeps.specs.Reaching.{Pegs as Pegged, held}
 use Rattle.sweeps.specs.Sweeping.{on_peg, swept, renumbered, pegs_after}
-use Rattle.sweeps.proofs.Laws.{sweep as sweep-law}
+use Rattle.sweeps.proofs.Laws.{sweep as sweep_law}
 use Rattle.store.specs.Views.{View, Pegs}
 use Rattle.store.specs.Steps.{declined, left, sweep, swept_view, season_asked, step}
 
@@ -31,7 +31,7 @@ module _ (N : List Node) (P : Pegs) where
   unfolding pegs_after
   pegs_there S there p m e =
       let b = peg_back (renumbered N P) P p m e in
-      omega (arith, b.1.1, (sweep-law N P S there).there b.0 (held (p, b.1.0)))
+      omega (arith, b.1.1, (sweep_law N P S there).there b.0 (held (p, b.1.0)))
 
 module _ (g : Moves) (w : View) where
   pub sweep_fine : w.season < 4294967295 → (swept_view w, left (length (swept w.nodes w.pegs))) ≡ step g w sweep

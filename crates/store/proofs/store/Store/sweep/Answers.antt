@@ -2,7 +2,7 @@ use Rattle.std.proofs.Common.{◌≡◌, ◌+◌, length, get_or, None, sym, ref
 use Rattle.tables.specs.Rows.{rows}
 use Rattle.tables.proofs.Rows.{sound_of}
 use Rattle.sweeps.specs.Sweeping.{swept, pegs_after}
-use Rattle.sweeps.proofs.Laws.{sweep as sweep-law}
+use Rattle.sweeps.proofs.Laws.{sweep as sweep_law}
 use Rattle.store.specs.Views.{view}
 use Rattle.store.specs.Steps.{After, left, sweep, step}
 use Rattle.store.proofs.Holds.{holds_stand}
@@ -58,7 +58,7 @@ returns g c =
         most = zero-le;
         just = λ never. refl;
       };
-      law = sweep-law N P (sound_of s.engine.table) s.pegged;
+      law = sweep_law N P (sound_of s.engine.table) s.pegged;
       lasts = λ h k. (holds_stand t).lasts w _ h (sym (ap (λ (r : After). r.0) after)) k;
       forgot = c.replace.ensures.emptied;
     }

@@ -65,8 +65,8 @@ returns g c =
     let solved = c.in_ok-found.ensures in
     let d = as_done _ _ _ _ solved.rule in
     let is = same ∙ d.is in
-    let recalls-before = g.C.Cache.recalls s.engine.cache in
-    let recalls-after = g.C.Cache.recalls c.solve.new.self.cache in
+    let recalls_before = g.C.Cache.recalls s.engine.cache in
+    let recalls_after = g.C.Cache.recalls c.solve.new.self.cache in
     record {
       does = record {
         after = ap (λ h. (with_nodes w (rows c.solve.new.self.table), found h)) c.handle.ensures ∙ step_is t w call yes.0 _ is;
@@ -77,7 +77,7 @@ returns g c =
       answers = record {
         set = rw c.handle.ensures (set_is t w call yes.0 g.met.G.Chain.laws (sound_of s.engine.table) _ _ _ is);
         least = d.counts.least;
-        once = λ v e. once_is _ _ v (subst (λ u. Once (recalls-before (kind_of u) (first_of u) (right_of u)) (Ok c.in_ok-found.found)) yes.1 solved.once) e;
-        told = rw c.handle.ensures (subst (λ u. g.C.Cache.sure ≡ 1 → outright u ≡ None → recalls-after (kind_of u) (first_of u) (right_of u) ≡ Some c.in_ok-found.found.number) yes.1 solved.told);
+        once = λ v e. once_is _ _ v (subst (λ u. Once (recalls_before (kind_of u) (first_of u) (right_of u)) (Ok c.in_ok-found.found)) yes.1 solved.once) e;
+        told = rw c.handle.ensures (subst (λ u. g.C.Cache.sure ≡ 1 → outright u ≡ None → recalls_after (kind_of u) (first_of u) (right_of u) ≡ Some c.in_ok-found.found.number) yes.1 solved.told);
       };
     }
