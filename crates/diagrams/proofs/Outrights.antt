@@ -6,12 +6,13 @@ use Rattle.orders.specs.Dimension.{dimension}
 use Rattle.diagrams.specs.declared.Node.{Node}
 use Rattle.diagrams.specs.declared.Task.{Task}
 use Rattle.diagrams.specs.declared.Task.TheVariants.{Join, Meet, Without, Carry, Follow, Pick}
-use Rattle.diagrams.specs.declared.Side.{Side}
-use Rattle.diagrams.specs.declared.Side.TheVariants.{Level, Above, Below}
+use Rattle.std.specs.declared.cmp.Ordering.{Ordering}
+use Rattle.std.specs.declared.cmp.Ordering.TheVariants.{Less, Equal, Greater}
+use Rattle.std.specs.Ordering.{nat_cmp}
 use Rattle.diagrams.specs.Moves.{Moves, same}
 use Rattle.diagrams.specs.Table.{x_of, level_of}
 use Rattle.diagrams.specs.Script.{Script, answer, make, enter}
-use Rattle.diagrams.specs.Bodies.{side, row, join_body, meet_body, without_body, carry_body, follow_body, pick_body, from_of, body}
+use Rattle.diagrams.specs.Bodies.{row, join_body, meet_body, without_body, carry_body, follow_body, pick_body, from_of, body}
 use Rattle.diagrams.specs.Outright.{answered, outright}
 
 pub answered_only : (s : Script) (v : ℕ) → answered s ≡ Some v → s ≡ answer v
@@ -33,26 +34,26 @@ no_pick false false u a e = (refl, refl)
 
 module _ (g : Moves) where
   module _ (a b : ℕ) (p q : Node) where
-    join_answered : (s t : Bool) (w : Side) → answered (join_body a b p q s t w) ≡ cond s (Some b) (cond t (Some a) None)
+    join_answered : (s t : Bool) (w : Ordering) → answered (join_body a b p q s t w) ≡ cond s (Some b) (cond t (Some a) None)
     join_answered true t w = refl
     join_answered false true w = refl
-    join_answered false false Level = refl
-    join_answered false false Above = refl
-    join_answered false false Below = refl
+    join_answered false false Equal = refl
+    join_answered false false Greater = refl
+    join_answered false false Less = refl
 
-    meet_answered : (s t : Bool) (w : Side) → answered (meet_body a b p q s t w) ≡ cond s (Some 0) (cond t (Some a) None)
+    meet_answered : (s t : Bool) (w : Ordering) → answered (meet_body a b p q s t w) ≡ cond s (Some 0) (cond t (Some a) None)
     meet_answered true t w = refl
     meet_answered false true w = refl
-    meet_answered false false Level = refl
-    meet_answered false false Above = refl
-    meet_answered false false Below = refl
+    meet_answered false false Equal = refl
+    meet_answered false false Greater = refl
+    meet_answered false false Less = refl
 
-    without_answered : (s t : Bool) (w : Side) → answered (without_body a b p q s t w) ≡ cond s (Some 0) (cond t (Some a) None)
+    without_answered : (s t : Bool) (w : Ordering) → answered (without_body a b p q s t w) ≡ cond s (Some 0) (cond t (Some a) None)
     without_answered true t w = refl
     without_answered false true w = refl
-    without_answered false false Level = refl
-    without_answered false false Above = refl
-    without_answered false false Below = refl
+    without_answered false false Equal = refl
+    without_answered false false Greater = refl
+    without_answered false false Less = refl
 
     follow_answered : (s t : Bool) → answered (follow_body g q a b s t) ≡ cond s (Some 0) (cond t (Some a) None)
     follow_answered true t = refl
@@ -74,9 +75,9 @@ module _ (g : Moves) where
   -- a task is answered outright just where its rule is an answer
   pub outright_is : (N : List Node) (t : Task) → answered (body g N t) ≡ outright t
   unfolding body
-  outright_is N (Join a b) = join_answered a b (row N a) (row N b) (eqb a 0) (eqb b 0 || eqb a b) (side (level_of N a) (level_of N b))
-  outright_is N (Meet a b) = meet_answered a b (row N a) (row N b) (eqb a 0 || eqb b 0) (eqb a b) (side (level_of N a) (level_of N b))
-  outright_is N (Without a b) = without_answered a b (row N a) (row N b) (eqb a 0 || eqb a b) (eqb b 0) (side (level_of N a) (level_of N b))
+  outright_is N (Join a b) = join_answered a b (row N a) (row N b) (eqb a 0) (eqb b 0 || eqb a b) (nat_cmp (level_of N a) (level_of N b))
+  outright_is N (Meet a b) = meet_answered a b (row N a) (row N b) (eqb a 0 || eqb b 0) (eqb a b) (nat_cmp (level_of N a) (level_of N b))
+  outright_is N (Without a b) = without_answered a b (row N a) (row N b) (eqb a 0 || eqb a b) (eqb b 0) (nat_cmp (level_of N a) (level_of N b))
   outright_is N (Carry a h) = carry_answered (row N a) a h (eqb a 0) (same h standing) (ltb (x_of N a) (dimension h))
   outright_is N (Follow a b) = follow_answered a b (row N a) (row N b) (eqb a 0 || eqb b 0) (eqb b 1)
   outright_is N (Pick a k z) = pick_answered (row N a) a k z (from_of g (row N a) z) (eqb a 0) (eqb a 1) (eqb k z)
@@ -85,23 +86,23 @@ module _ (g : Moves) where
   outright_body N t v e = answered_only (body g N t) v (outright_is N t ∙ e)
 
   -- the rule of each kind where it is not outright
-  pub join_works : (N : List Node) (a b : ℕ) → outright (Join a b) ≡ None → body g N (Join a b) ≡ join_body a b (row N a) (row N b) false false (side (level_of N a) (level_of N b))
+  pub join_works : (N : List Node) (a b : ℕ) → outright (Join a b) ≡ None → body g N (Join a b) ≡ join_body a b (row N a) (row N b) false false (nat_cmp (level_of N a) (level_of N b))
   unfolding body
   join_works N a b e =
       let f = no_test (eqb a 0) (eqb b 0 || eqb a b) _ _ e in
-      ap₂ (λ (s t : Bool). join_body a b (row N a) (row N b) s t (side (level_of N a) (level_of N b))) f.0 f.1
+      ap₂ (λ (s t : Bool). join_body a b (row N a) (row N b) s t (nat_cmp (level_of N a) (level_of N b))) f.0 f.1
 
-  pub meet_works : (N : List Node) (a b : ℕ) → outright (Meet a b) ≡ None → body g N (Meet a b) ≡ meet_body a b (row N a) (row N b) false false (side (level_of N a) (level_of N b))
+  pub meet_works : (N : List Node) (a b : ℕ) → outright (Meet a b) ≡ None → body g N (Meet a b) ≡ meet_body a b (row N a) (row N b) false false (nat_cmp (level_of N a) (level_of N b))
   unfolding body
   meet_works N a b e =
       let f = no_test (eqb a 0 || eqb b 0) (eqb a b) _ _ e in
-      ap₂ (λ (s t : Bool). meet_body a b (row N a) (row N b) s t (side (level_of N a) (level_of N b))) f.0 f.1
+      ap₂ (λ (s t : Bool). meet_body a b (row N a) (row N b) s t (nat_cmp (level_of N a) (level_of N b))) f.0 f.1
 
-  pub without_works : (N : List Node) (a b : ℕ) → outright (Without a b) ≡ None → body g N (Without a b) ≡ without_body a b (row N a) (row N b) false false (side (level_of N a) (level_of N b))
+  pub without_works : (N : List Node) (a b : ℕ) → outright (Without a b) ≡ None → body g N (Without a b) ≡ without_body a b (row N a) (row N b) false false (nat_cmp (level_of N a) (level_of N b))
   unfolding body
   without_works N a b e =
       let f = no_test (eqb a 0 || eqb a b) (eqb b 0) _ _ e in
-      ap₂ (λ (s t : Bool). without_body a b (row N a) (row N b) s t (side (level_of N a) (level_of N b))) f.0 f.1
+      ap₂ (λ (s t : Bool). without_body a b (row N a) (row N b) s t (nat_cmp (level_of N a) (level_of N b))) f.0 f.1
 
   pub carry_works : (N : List Node) (a : ℕ) (h : Order) → outright (Carry a h) ≡ None → body g N (Carry a h) ≡ carry_body g (row N a) a h false false (ltb (x_of N a) (dimension h))
   unfolding body

@@ -7,12 +7,14 @@ use Rattle.orders.specs.Chains.{ChainLaws}
 use Rattle.diagrams.specs.declared.Node.{Node}
 use Rattle.diagrams.specs.declared.Task.{Task}
 use Rattle.diagrams.specs.declared.Task.TheVariants.{Join, Meet, Without, Carry, Follow, Pick}
-use Rattle.diagrams.specs.declared.Side.{Side}
-use Rattle.diagrams.specs.declared.Side.TheVariants.{Level, Above, Below}
+use Rattle.std.specs.declared.cmp.Ordering.{Ordering}
+use Rattle.std.specs.declared.cmp.Ordering.TheVariants.{Less, Equal, Greater}
+use Rattle.std.specs.Ordering.{MatchOrdering, nat_cmp}
+use Rattle.std.specs.Cmp.{ranks}
 use Rattle.diagrams.specs.Moves.{Moves}
 use Rattle.diagrams.specs.Table.{Exists, level_of, Sound, mem}
 use Rattle.diagrams.specs.Script.{Script}
-use Rattle.diagrams.specs.Bodies.{side, row, join_body, meet_body, without_body, body}
+use Rattle.diagrams.specs.Bodies.{row, join_body, meet_body, without_body, body}
 use Rattle.diagrams.specs.Work.{Valid, Set, measure}
 use Rattle.diagrams.specs.Meets.{Meets}
 use Rattle.diagrams.proofs.Folds.{mem_zero}
@@ -23,20 +25,9 @@ use Rattle.diagrams.proofs.Picks.{pick_meets}
 use Rattle.diagrams.proofs.Bools.{or_split, or_none, and_self, and_none, and_all, and_other}
 use Rattle.diagrams.proofs.Numbers.{two_nodes}
 
--- what a side says of two levels
-abbrev pub Says : ℕ → ℕ → Side → Type 0
-Says i j Level = i ≡ j
-Says i j Above = j < i
-Says i j Below = i < j
-
-pub side_is : (i j : ℕ) → Says i j (side i j)
-unfolding side
-side_is i j = by (eqb i j) (ltb j i) refl refl
-  where
-    by : (s t : Bool) → eqb i j ≡ s → ltb j i ≡ t → Says i j (cond s Level (cond t Above Below))
-    by true t es et = eqb-true i j es
-    by false true es et = ltb-true j i et
-    by false false es et = let ne : ¬ (i ≡ j) = eqb-false i j es in let le : i ≤ j = ltb-false j i et in omega arith
+-- how two levels compare
+abbrev pub Says : ℕ → ℕ → Ordering → Type 0
+Says i j w = MatchOrdering w (i < j) (i ≡ j) (j < i)
 
 abbrev minus : Op
 minus p q = p && not q
@@ -77,56 +68,56 @@ module _ (g : Moves) (laws : ChainLaws g) where
     nodes : ¬ (a ≡ 0) → ¬ (b ≡ 0) → ¬ (a ≡ b) → la ≡ lb → (2 ≤ a) × (2 ≤ b)
     nodes z w ne l = (two_nodes N S a b ea eb z w ne l, two_nodes N S b a eb ea w z (λ e. ne (sym e)) (sym l))
 
-    join_meets : Meets g (Combined g ◌||◌ N a b) (la + lb) N (join_body a b (row N a) (row N b) (eqb a 0) (eqb b 0 || eqb a b) (side la lb))
-    join_meets = by (eqb a 0) (eqb b 0 || eqb a b) (side la lb) refl refl (side_is la lb)
+    join_meets : Meets g (Combined g ◌||◌ N a b) (la + lb) N (join_body a b (row N a) (row N b) (eqb a 0) (eqb b 0 || eqb a b) (nat_cmp la lb))
+    join_meets = by (eqb a 0) (eqb b 0 || eqb a b) (nat_cmp la lb) refl refl (ranks la lb)
       where
         one : (eqb b 0 ≡ true) ⊎ (eqb a b ≡ true) → (o : Order) → mem g N a o ≡ (mem g N a o || mem g N b o)
         one (inl e) o = rw (eqb-true b 0 e, mem_zero g N o) (sym (or-false (mem g N a o)))
         one (inr e) o = rw (← eqb-true a b e) (sym (or_self (mem g N a o)))
 
-        by : (s t : Bool) (w : Side) → eqb a 0 ≡ s → (eqb b 0 || eqb a b) ≡ t → Says la lb w → Meets g (Combined g ◌||◌ N a b) (la + lb) N (join_body a b (row N a) (row N b) s t w)
+        by : (s t : Bool) (w : Ordering) → eqb a 0 ≡ s → (eqb b 0 || eqb a b) ≡ t → Says la lb w → Meets g (Combined g ◌||◌ N a b) (la + lb) N (join_body a b (row N a) (row N b) s t w)
         by true t w es et l = (eb, λ o. rw (eqb-true a 0 es, mem_zero g N o))
         by false true w es et l = (ea, one (or_split _ _ et))
-        by false false Level es et l =
+        by false false Equal es et l =
             let q = or_none _ _ et in
             let n = nodes (eqb-false a 0 es) (eqb-false b 0 q.0) (eqb-false a b q.1) l in
             both_meets g laws ◌||◌ Join (join_is g) N S a b ea eb n.0 n.1 l
-        by false false Above es et l = over_meets g laws ◌||◌ Join (join_is g) N S a b ea eb l refl
-        by false false Below es et l = swap (Combined g ◌||◌ N a b) (join_body a b (row N a) (row N b) false false Below) (over_meets g laws (turned ◌||◌) (λ p q. Join q p) (turn g ◌||◌ Join (join_is g)) N S b a eb ea l refl)
+        by false false Greater es et l = over_meets g laws ◌||◌ Join (join_is g) N S a b ea eb l refl
+        by false false Less es et l = swap (Combined g ◌||◌ N a b) (join_body a b (row N a) (row N b) false false Less) (over_meets g laws (turned ◌||◌) (λ p q. Join q p) (turn g ◌||◌ Join (join_is g)) N S b a eb ea l refl)
 
-    meet_meets : Meets g (Combined g ◌&&◌ N a b) (la + lb) N (meet_body a b (row N a) (row N b) (eqb a 0 || eqb b 0) (eqb a b) (side la lb))
-    meet_meets = by (eqb a 0 || eqb b 0) (eqb a b) (side la lb) refl refl (side_is la lb)
+    meet_meets : Meets g (Combined g ◌&&◌ N a b) (la + lb) N (meet_body a b (row N a) (row N b) (eqb a 0 || eqb b 0) (eqb a b) (nat_cmp la lb))
+    meet_meets = by (eqb a 0 || eqb b 0) (eqb a b) (nat_cmp la lb) refl refl (ranks la lb)
       where
         none : (eqb a 0 ≡ true) ⊎ (eqb b 0 ≡ true) → (o : Order) → mem g N 0 o ≡ (mem g N a o && mem g N b o)
         none (inl e) o = rw (eqb-true a 0 e, mem_zero g N o)
         none (inr e) o = rw (eqb-true b 0 e, mem_zero g N o) (and_none (mem g N a o))
 
-        by : (s t : Bool) (w : Side) → (eqb a 0 || eqb b 0) ≡ s → eqb a b ≡ t → Says la lb w → Meets g (Combined g ◌&&◌ N a b) (la + lb) N (meet_body a b (row N a) (row N b) s t w)
+        by : (s t : Bool) (w : Ordering) → (eqb a 0 || eqb b 0) ≡ s → eqb a b ≡ t → Says la lb w → Meets g (Combined g ◌&&◌ N a b) (la + lb) N (meet_body a b (row N a) (row N b) s t w)
         by true t w es et l = (omega arith, none (or_split _ _ es))
         by false true w es et l = (ea, λ o. rw (← eqb-true a b et) (and_self (mem g N a o)))
-        by false false Level es et l =
+        by false false Equal es et l =
             let q = or_none _ _ es in
             let n = nodes (eqb-false a 0 q.0) (eqb-false b 0 q.1) (eqb-false a b et) l in
             both_meets g laws ◌&&◌ Meet (meet_is g) N S a b ea eb n.0 n.1 l
-        by false false Above es et l = skip_meets g laws ◌&&◌ Meet (meet_is g) N S a b ea eb l (λ p. sym (and_none p))
-        by false false Below es et l = swap (Combined g ◌&&◌ N a b) (meet_body a b (row N a) (row N b) false false Below) (skip_meets g laws (turned ◌&&◌) (λ p q. Meet q p) (turn g ◌&&◌ Meet (meet_is g)) N S b a eb ea l (λ p. refl))
+        by false false Greater es et l = skip_meets g laws ◌&&◌ Meet (meet_is g) N S a b ea eb l (λ p. sym (and_none p))
+        by false false Less es et l = swap (Combined g ◌&&◌ N a b) (meet_body a b (row N a) (row N b) false false Less) (skip_meets g laws (turned ◌&&◌) (λ p q. Meet q p) (turn g ◌&&◌ Meet (meet_is g)) N S b a eb ea l (λ p. refl))
 
-    without_meets : Meets g (Combined g minus N a b) (la + lb) N (without_body a b (row N a) (row N b) (eqb a 0 || eqb a b) (eqb b 0) (side la lb))
-    without_meets = by (eqb a 0 || eqb a b) (eqb b 0) (side la lb) refl refl (side_is la lb)
+    without_meets : Meets g (Combined g minus N a b) (la + lb) N (without_body a b (row N a) (row N b) (eqb a 0 || eqb a b) (eqb b 0) (nat_cmp la lb))
+    without_meets = by (eqb a 0 || eqb a b) (eqb b 0) (nat_cmp la lb) refl refl (ranks la lb)
       where
         none : (eqb a 0 ≡ true) ⊎ (eqb a b ≡ true) → (o : Order) → mem g N 0 o ≡ (mem g N a o && not (mem g N b o))
         none (inl e) o = rw (eqb-true a 0 e, mem_zero g N o)
         none (inr e) o = mem_zero g N o ∙ (rw (← eqb-true a b e) (and_other (mem g N a o)))
 
-        by : (s t : Bool) (w : Side) → (eqb a 0 || eqb a b) ≡ s → eqb b 0 ≡ t → Says la lb w → Meets g (Combined g minus N a b) (la + lb) N (without_body a b (row N a) (row N b) s t w)
+        by : (s t : Bool) (w : Ordering) → (eqb a 0 || eqb a b) ≡ s → eqb b 0 ≡ t → Says la lb w → Meets g (Combined g minus N a b) (la + lb) N (without_body a b (row N a) (row N b) s t w)
         by true t w es et l = (omega arith, none (or_split _ _ es))
         by false true w es et l = (ea, λ o. rw (eqb-true b 0 et, mem_zero g N o) (and_all (mem g N a o)))
-        by false false Level es et l =
+        by false false Equal es et l =
             let q = or_none _ _ es in
             let n = nodes (eqb-false a 0 q.0) (eqb-false b 0 et) (eqb-false a b q.1) l in
             both_meets g laws minus Without (without_is g) N S a b ea eb n.0 n.1 l
-        by false false Above es et l = over_meets g laws minus Without (without_is g) N S a b ea eb l refl
-        by false false Below es et l = swap (Combined g minus N a b) (without_body a b (row N a) (row N b) false false Below) (skip_meets g laws (turned minus) (λ p q. Without q p) (turn g minus Without (without_is g)) N S b a eb ea l (λ p. refl))
+        by false false Greater es et l = over_meets g laws minus Without (without_is g) N S a b ea eb l refl
+        by false false Less es et l = swap (Combined g minus N a b) (without_body a b (row N a) (row N b) false false Less) (skip_meets g laws (turned minus) (λ p q. Without q p) (turn g minus Without (without_is g)) N S b a eb ea l (λ p. refl))
 
   -- the rule of each task ends in its set
   pub meets : (N : List Node) (t : Task) → Sound N → Valid N t → Meets g (Set g N t) (measure N t) N (body g N t)

@@ -4,8 +4,9 @@ use Rattle.orders.specs.declared.order.Order.{Order}
 use Rattle.diagrams.specs.declared.Node.{Node}
 use Rattle.diagrams.specs.declared.Task.{Task}
 use Rattle.diagrams.specs.declared.Task.TheVariants.{Join, Meet, Without, Carry, Follow, Pick}
-use Rattle.diagrams.specs.declared.Side.{Side}
-use Rattle.diagrams.specs.declared.Side.TheVariants.{Level, Above, Below}
+use Rattle.std.specs.declared.cmp.Ordering.{Ordering}
+use Rattle.std.specs.declared.cmp.Ordering.TheVariants.{Less, Equal, Greater}
+use Rattle.std.specs.Ordering.{nat_cmp}
 use Rattle.orders.specs.Orders.{place, standing, then, inverse}
 use Rattle.orders.specs.Dimension.{dimension}
 use Rattle.diagrams.specs.Moves.{Moves, same, back}
@@ -34,10 +35,6 @@ second_of (Pick a k p) = 0
 abbrev pub row : List Node → ℕ → Node
 row N n = record { x = x_of N n; y = y_of N n; lo = lo_of N n; hi = hi_of N n; orders = count_of N n }
 
--- which of two levels is higher
-unfoldable pub side : ℕ → ℕ → Side
-side p q = cond (p == q) Level (cond (nat_lt q p) Above Below)
-
 -- The shapes that rules are made of.
 -- two tasks, from left to right, and then the node of their answers
 abbrev pub both_script : Task → Task → ℕ → ℕ → Script
@@ -64,28 +61,28 @@ module _ (a b : ℕ) (p q : Node) where
   both task = both_script (task p.lo q.lo) (task p.hi q.hi) p.x p.y
 
   -- the tests: a is 0; b is 0 or a
-  abbrev pub join_body : Bool → Bool → Side → Script
+  abbrev pub join_body : Bool → Bool → Ordering → Script
   join_body true t w = answer b
   join_body false true w = answer a
-  join_body false false Level = both Join
-  join_body false false Above = over_script (Join p.lo b) p.x p.y p.hi
-  join_body false false Below = over_script (Join a q.lo) q.x q.y q.hi
+  join_body false false Equal = both Join
+  join_body false false Greater = over_script (Join p.lo b) p.x p.y p.hi
+  join_body false false Less = over_script (Join a q.lo) q.x q.y q.hi
 
   -- the tests: a or b is 0; a is b
-  abbrev pub meet_body : Bool → Bool → Side → Script
+  abbrev pub meet_body : Bool → Bool → Ordering → Script
   meet_body true t w = answer 0
   meet_body false true w = answer a
-  meet_body false false Level = both Meet
-  meet_body false false Above = enter (Meet p.lo b) answer
-  meet_body false false Below = enter (Meet a q.lo) answer
+  meet_body false false Equal = both Meet
+  meet_body false false Greater = enter (Meet p.lo b) answer
+  meet_body false false Less = enter (Meet a q.lo) answer
 
   -- the tests: a is 0 or b; b is 0
-  abbrev pub without_body : Bool → Bool → Side → Script
+  abbrev pub without_body : Bool → Bool → Ordering → Script
   without_body true t w = answer 0
   without_body false true w = answer a
-  without_body false false Level = both Without
-  without_body false false Above = over_script (Without p.lo b) p.x p.y p.hi
-  without_body false false Below = enter (Without a q.lo) answer
+  without_body false false Equal = both Without
+  without_body false false Greater = over_script (Without p.lo b) p.x p.y p.hi
+  without_body false false Less = enter (Without a q.lo) answer
 
 -- A number with its row p, a piece k, a place z, and the place that the row's move takes to z. The tests: a is 0; a is 1; the piece is the place
 abbrev pub pick_body : Node → ℕ → ℕ → ℕ → ℕ → Bool → Bool → Bool → Script
@@ -126,9 +123,9 @@ module _ (g : Moves) where
 
   -- the rule of a task, read off the rows of its numbers
   abbrev pub body_by : Task → Node → Node → ℕ → ℕ → Script
-  body_by (Join a b) p q i j = join_body a b p q (a == 0) (b == 0 || a == b) (side i j)
-  body_by (Meet a b) p q i j = meet_body a b p q (a == 0 || b == 0) (a == b) (side i j)
-  body_by (Without a b) p q i j = without_body a b p q (a == 0 || a == b) (b == 0) (side i j)
+  body_by (Join a b) p q i j = join_body a b p q (a == 0) (b == 0 || a == b) (nat_cmp i j)
+  body_by (Meet a b) p q i j = meet_body a b p q (a == 0 || b == 0) (a == b) (nat_cmp i j)
+  body_by (Without a b) p q i j = without_body a b p q (a == 0 || a == b) (b == 0) (nat_cmp i j)
   body_by (Carry a h) p q i j = carry_body p a h (a == 0) (same h standing) (nat_lt p.x (dimension h))
   body_by (Follow a b) p q i j = follow_body q a b (a == 0 || b == 0) (b == 1)
   body_by (Pick a k z) p q i j = pick_body p a k z (from_of p z) (a == 0) (a == 1) (k == z)

@@ -1,6 +1,8 @@
 // Diagrams: tables of nodes, the sets that their numbers stand for, and the rule of work.
 #![tactic(auto)]
 
+ghost use Rattle.std.specs.Prelude.{◌≡◌};
+
 mod heights;
 mod theorems;
 
@@ -21,6 +23,25 @@ pub struct Node {
     pub orders: u64,
 }
 
+// What tells a node from every other: the pair that it branches at, and the numbers of its lower and its upper part.
+#[derive(Clone, Copy, PartialEq, Eq)]
+pub struct Branch {
+    pub x: u8,
+    pub y: u8,
+    pub lo: u32,
+    pub hi: u32,
+}
+
+impl Node {
+    // The node without the count of its orders.
+    pub fn branch(self) -> Branch
+        ensures { result ≡ record { x = self.x; y = self.y; lo = self.lo; hi = self.hi } }
+    {
+        let Node { x, y, lo, hi, .. } = self;
+        Branch { x, y, lo, hi }
+    }
+}
+
 // A piece of work on the numbers of a table.
 #[derive(Clone, Copy)]
 pub enum Task {
@@ -36,12 +57,4 @@ pub enum Task {
     Follow(u32, u32),
     // the orders with the piece in the place
     Pick(u32, u8, u8),
-}
-
-// Which of two numbers is of higher level.
-#[derive(Clone, Copy)]
-pub enum Side {
-    Level,
-    Above,
-    Below,
 }

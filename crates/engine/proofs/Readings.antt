@@ -5,7 +5,7 @@ use Rattle.orders.specs.declared.order.Order.{Order}
 use Rattle.orders.specs.Orders.{place}
 use Rattle.orders.specs.Dimension.{dimension}
 use Rattle.diagrams.specs.declared.Node.{Node}
-use Rattle.diagrams.specs.declared.Side.{Side}
+use Rattle.std.specs.Ordering.{Ordering}
 use Rattle.diagrams.specs.declared.Task.{Task}
 use Rattle.diagrams.specs.declared.Task.TheVariants.{Join, Carry, Follow}
 use Rattle.diagrams.specs.Moves.{Moves, back}
@@ -14,7 +14,7 @@ use Rattle.diagrams.specs.Bodies.{carry_body, follow_body, pick_body, from_of, m
 use Rattle.diagrams.specs.Outright.{outright}
 
 -- of the kinds that are on two numbers
-pub read_two : (f : Node → Node → Side → Script) {p p' q q' : Node} {w w' : Side} → p ≡ p' → q ≡ q' → w ≡ w' → f p q w ≡ f p' q' w'
+pub read_two : (f : Node → Node → Ordering → Script) {p p' q q' : Node} {w w' : Ordering} → p ≡ p' → q ≡ q' → w ≡ w' → f p q w ≡ f p' q' w'
 read_two f ep eq ew = cc
 
 module _ (g : Moves) where

@@ -1,13 +1,12 @@
 -- A table's array, and the list of its nodes. Assumes nothing.
-use Rattle.std.proofs.Common.{◌≡◌, ℕ, zero, suc, ◌+◌, ◌-◌, ◌<◌, ◌≤◌, List, [], ◌∷◌, ◌++◌, length, take, set, sym, refl, ap, ◌∙◌, add-one, arith, length-take-le, get_or-take, take-suc-set, le-ltb, lt-ltb, eq-eqb, ne_eqb}
+use Rattle.std.proofs.Common.{◌≡◌, ℕ, zero, suc, ◌+◌, ◌-◌, ◌<◌, ◌≤◌, List, [], ◌∷◌, ◌++◌, length, take, set, sym, refl, ap, ◌∙◌, add-one, arith, length-take-le, get_or-take, take-suc-set}
 use native.Mathlib.Decide.{dec_lt}
 use Rattle.orders.specs.Chains.{Pair}
 use Rattle.diagrams.specs.declared.Node.{Node}
-use Rattle.diagrams.specs.declared.Side.TheVariants.{Level, Above, Below}
 use Rattle.diagrams.specs.Level.{level}
 use Rattle.diagrams.specs.Table.{at, blank, x_of, y_of, lo_of, hi_of, level_of, count_of, Exists, Sound}
 use Rattle.diagrams.specs.Rules.{Asks}
-use Rattle.diagrams.specs.Bodies.{row, side}
+use Rattle.diagrams.specs.Bodies.{row}
 use Rattle.diagrams.proofs.Props.{sound_out}
 use Rattle.diagrams.proofs.Numbers.{x_small, level_small, parts}
 use Rattle.tables.specs.declared.table.Table.{Table}
@@ -85,15 +84,3 @@ asks_read N x y lo hi q high x_max y_min y_below lo_there hi_there deep small = 
   lo_level = deep;
   hi_x = rw high at small;
 }
-
-pub side_level : (i j : ℕ) → i ≡ j → side i j ≡ Level
-unfolding side
-side_level i j e = rw (eq-eqb i j e)
-
-pub side_above : (i j : ℕ) → ¬ (i ≡ j) → j < i → side i j ≡ Above
-unfolding side
-side_above i j ne l = rw (ne_eqb i j ne, lt-ltb j i l)
-
-pub side_below : (i j : ℕ) → ¬ (i ≡ j) → i ≤ j → side i j ≡ Below
-unfolding side
-side_below i j ne l = rw (ne_eqb i j ne, le-ltb j i l)

@@ -1,8 +1,9 @@
-// The hash of a node's four values.
+// The hash of a node's branch.
 ghost use Rattle.std.specs.Prelude.{◌≡◌, ◌<◌};
 ghost use Rattle.tables.specs.Hashing.{stirred, bucket as bucket_of};
 
 use super::BUCKETS;
+use diagrams::Branch;
 
 // An odd number near 2^64 divided by the golden ratio.
 const SPREAD: u64 = 11400714819323198485;
@@ -17,11 +18,11 @@ fn stir(hash: u64, value: u64) -> u64
     (hash ^ value).wrapping_mul(SPREAD).rotate_left(29)
 }
 
-// The bucket that four values fall into.
-pub fn bucket(x: u8, y: u8, lo: u32, hi: u32) -> usize
-    ensures is { result ≡ bucket_of x y lo hi }
+// The bucket that a branch falls into.
+pub fn bucket(branch: Branch) -> usize
+    ensures is { result ≡ bucket_of branch.x branch.y branch.lo branch.hi }
     ensures below { result < 4096 }
 {
-    let pair = (x as u64 * 256 + y as u64) * ABOVE;
-    stir(stir(pair, lo as u64), hi as u64) as usize % BUCKETS
+    let pair = (u64::from(branch.x) * 256 + u64::from(branch.y)) * ABOVE;
+    stir(stir(pair, u64::from(branch.lo)), u64::from(branch.hi)) as usize % BUCKETS
 }

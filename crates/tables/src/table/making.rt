@@ -6,7 +6,7 @@ ghost use Rattle.tables.specs.Rows.{rows, Makes};
 
 use super::Table;
 use super::hashing::bucket;
-use diagrams::Node;
+use diagrams::{Branch, Node};
 use orders::Refusal;
 
 impl Table {
@@ -19,7 +19,7 @@ impl Table {
     {
         let i = self.len;
         let number = i as u32 + 2;
-        let b = bucket(node.x, node.y, node.lo, node.hi);
+        let b = bucket(node.branch());
         self.nodes[i] = node;
         self.next[i] = self.heads[b];
         self.heads[b] = number;
@@ -27,16 +27,17 @@ impl Table {
         number
     }
 
-    // The number of the node with these four values, which is made if there is none and there are less than `capacity`.
-    pub fn node(&mut self, capacity: usize, x: u8, y: u8, lo: u32, hi: u32) -> Result<u32, Refusal>
+    // The number of the node with this branch, which is made if there is none and there are less than `capacity`.
+    pub fn node(&mut self, capacity: usize, branch: Branch) -> Result<u32, Refusal>
         requires capacity { capacity ≤ 2046 }
-        requires asks { Asks (rows self.old) x y lo hi }
-        ensures { (n : ℕ) → Makes (node_rule capacity (rows self.old) x y lo hi n) (rows self.new) n result }
+        requires asks { Asks (rows self.old) branch.x branch.y branch.lo branch.hi }
+        ensures { (n : ℕ) → Makes (node_rule capacity (rows self.old) branch.x branch.y branch.lo branch.hi n) (rows self.new) n result }
     {
+        let Branch { x, y, lo, hi } = branch;
         if hi == 0 {
             return Ok(lo);
         }
-        if let Some(number) = self.find(x, y, lo, hi) {
+        if let Some(number) = self.find(branch) {
             return Ok(number);
         }
         if capacity <= self.len {

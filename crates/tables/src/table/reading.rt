@@ -1,12 +1,14 @@
 // The table with no node, and what is read off a table.
+ghost use Rattle.std.specs.Ordering.{nat_cmp};
 ghost use Rattle.std.specs.Prelude.{◌≡◌, ℕ, ◌≤◌, List, [], length, Decides};
 ghost use Rattle.diagrams.specs.declared.Node.{Node};
 ghost use Rattle.diagrams.specs.Table.{Exists, Sound, level_of};
-ghost use Rattle.diagrams.specs.Bodies.{row as row_of, side};
+ghost use Rattle.diagrams.specs.Bodies.{row as row_of};
 ghost use Rattle.tables.specs.Rows.{rows};
 
 use super::{BUCKETS, ROOM, Table};
-use diagrams::{Node, Side, level};
+use diagrams::{Node, level};
+use std::cmp::Ordering;
 
 // The row of the number 0, the empty set.
 const ZERO: Node = Node {
@@ -88,20 +90,12 @@ impl Table {
         height(self.get(number))
     }
 
-    // Which of two numbers is of higher level.
-    pub fn side(&self, a: u32, b: u32) -> Side
+    // How the levels of two numbers compare.
+    pub fn cmp_levels(&self, a: u32, b: u32) -> Ordering
         requires left { Exists (rows self.now) a }
         requires right { Exists (rows self.now) b }
-        ensures { result ≡ side (level_of (rows self.now) a) (level_of (rows self.now) b) }
+        ensures { result ≡ nat_cmp (level_of (rows self.now) a) (level_of (rows self.now) b) }
     {
-        let p = height(self.get(a));
-        let q = height(self.get(b));
-        if p == q {
-            Side::Level
-        } else if q < p {
-            Side::Above
-        } else {
-            Side::Below
-        }
+        self.level_of(a).cmp(&self.level_of(b))
     }
 }

@@ -3,14 +3,14 @@ use Rattle.diagrams.specs.Bodies.{meet_body}
 use Rattle.engine.proofs.Readings.{read_two}
 use Rattle.engine.proofs.planning.meet.Goals as goal
 
-pub returns-in-Level : goal.returns-in-Level
-returns-in-Level c =
+pub returns-in-Equal : goal.returns-in-Equal
+returns-in-Equal c =
     read_two (λ p q w. meet_body c.args.a c.args.b p q false false w) c.get-p.ensures c.get-q.ensures (sym c.in-Level.is ∙ c.side.ensures)
 
-pub returns-in-Above : goal.returns-in-Above
-returns-in-Above c =
-    read_two (λ p q w. meet_body c.args.a c.args.b p q false false w) c.get-p.ensures c.get-q.ensures (sym c.in-Above.is ∙ c.side.ensures)
+pub returns-in-Greater : goal.returns-in-Greater
+returns-in-Greater c =
+    read_two (λ p q w. meet_body c.args.a c.args.b p q false false w) c.get-p.ensures c.get-q.ensures (sym c.in-Greater.is ∙ c.side.ensures)
 
-pub returns-in-Below : goal.returns-in-Below
-returns-in-Below c =
-    read_two (λ p q w. meet_body c.args.a c.args.b p q false false w) c.get-p.ensures c.get-q.ensures (sym c.in-Below.is ∙ c.side.ensures)
+pub returns-in-Less : goal.returns-in-Less
+returns-in-Less c =
+    read_two (λ p q w. meet_body c.args.a c.args.b p q false false w) c.get-p.ensures c.get-q.ensures (sym c.in-Less.is ∙ c.side.ensures)

@@ -43,8 +43,8 @@ offset_bounds-self-i c = let h = within _ _ _ _ _ _ c.loop-number.invariant c.lo
 pub bounds-self-i : goal.bounds-self-i
 bounds-self-i c = within _ _ _ _ _ _ c.loop-number.invariant c.loop-number-test.true
 
-pub returns-then-matches : goal.returns-then-matches
-returns-then-matches c = hit _ _ _ _ _ _ c.loop-number.invariant c.loop-number-test.true c.if-matches.ensures
+pub returns-then-eq : goal.returns-then-eq
+returns-then-eq c = hit _ _ _ _ _ _ c.loop-number.invariant c.loop-number-test.true (rw c.branch-self.ensures at c.if-eq.ensures)
 
 pub offset_bounds-self-i-in-loop-number : goal.offset_bounds-self-i-in-loop-number
 offset_bounds-self-i-in-loop-number c = let h = within _ _ _ _ _ _ c.loop-number.invariant c.loop-number-test.true in omega arith
@@ -56,7 +56,7 @@ pub loop-number-smaller : goal.loop-number-smaller
 loop-number-smaller c = less _ _ _ _ _ _ c.loop-number.invariant c.loop-number-test.true
 
 pub loop-number-preserved : goal.loop-number-preserved
-loop-number-preserved c = on _ _ _ _ _ _ c.loop-number.invariant c.loop-number-test.true c.if-matches.ensures
+loop-number-preserved c = on _ _ _ _ _ _ c.loop-number.invariant c.loop-number-test.true (rw c.branch-self.ensures at c.if-eq.ensures)
 
 pub returns : goal.returns
 returns c = walk_end _ _ _ _ _ _ c.loop-number.invariant c.loop-number-test.false

@@ -5,6 +5,6 @@ use Rattle.tables.proofs.table.hashing.bucket.Goals as goal
 pub returns : goal.returns
 unfolding bucket
 returns c = record {
-  is = ap (λ h. h % 4096) (c.stir-2.ensures ∙ ap (λ h. stirred h c.args.hi) c.stir.ensures);
+  is = ap (λ h. h % 4096) (rw (c.from.ensures, c.from-2.ensures, c.from-3.ensures, c.from-4.ensures) at (c.stir-2.ensures ∙ ap (λ h. stirred h c.from-4.result) c.stir.ensures));
   below = search rules;
 }
