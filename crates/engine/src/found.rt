@@ -1,6 +1,6 @@
-// What a task answers: the number of its set, and how many triples were entered for it, its own included.
+// What a task answers: its set, and how many triples were entered for it, its own included.
 #[derive(Clone, Copy)]
-pub struct Found {
-    pub number: u32,
+pub struct Found<S> {
+    pub set: S,
     pub entries: u64,
 }
