@@ -10,15 +10,11 @@ pub struct Blank;
 impl Cache for Blank {
     const SURE: u8 = 0;
 
+    ghost SURE = { 0 };
+
     ghost recalls = { λ _ _ _ _. nothing };
 
-    ghost sure = { 0 };
-
     ghost flag = { Prim.search rules };
-
-    fn own_sureness() -> u8 {
-        Self::SURE
-    }
 
     fn ask(&self, _triple: Triple) -> Option<u32> {
         None

@@ -23,14 +23,10 @@ pub trait Cache {
     // Whether the pair just told is sure to be remembered: 1, or 0.
     const SURE: u8;
 
+    ghost SURE: { ℕ };
+
     // The answer that is remembered of a kind and two numbers, if any.
     ghost recalls: { Self → Recalls };
-
-    ghost sure: { ℕ };
-
-    // `SURE`, as a contract can cite it.
-    fn own_sureness() -> u8
-        ensures { result ≡ sure };
 
     // The remembered answer, or none exactly where there is none.
     fn ask(&self, triple: Triple) -> Option<u32>
@@ -38,11 +34,11 @@ pub trait Cache {
 
     // Takes note of an answer, or drops what was known of the triple.
     fn tell(&mut self, triple: Triple, answer: u32)
-        ensures { Told sure (recalls self.old) (recalls self.new) triple.kind triple.first triple.second answer };
+        ensures { Told SURE (recalls self.old) (recalls self.new) triple.kind triple.first triple.second answer };
 
     // Forgets every pair.
     fn empty(&mut self)
         ensures { Emptied (recalls self.new) };
 
-    ghost flag: { sure ≤ 1 };
+    ghost flag: { SURE ≤ 1 };
 }

@@ -61,15 +61,11 @@ impl Slots {
 impl Cache for Slots {
     const SURE: u8 = 1;
 
+    ghost SURE = { 1 };
+
     ghost recalls = { held };
 
-    ghost sure = { 1 };
-
     ghost flag = { Prim.search rules };
-
-    fn own_sureness() -> u8 {
-        Self::SURE
-    }
 
     fn ask(&self, triple: Triple) -> Option<u32> {
         let found = self.row.pairs[slot(triple)];

@@ -3,7 +3,7 @@ use Rattle.std.proofs.Common.{◌≡◌, ℕ, ◌+◌, ◌^◌, ◌<◌, ◌≤�
 use Rattle.std.specs.List.{between}
 use Rattle.std.proofs.lemmas.Slice.{first_rest}
 use Rattle.lines.specs.Format.{Ends, more, written, Values}
-use Rattle.lines.specs.Held.{held, Fits}
+use Rattle.lines.specs.Held.{held}
 use Rattle.lines.specs.declared.numbers.Fields.{Fields}
 use Rattle.lines.proofs.Fronts.{same_number, ends_more}
 
@@ -21,7 +21,7 @@ NoMore text k = (ns : List ℕ) → Values ns → k + length ns ≤ 16 → text 
 
 -- what stands here follows the numbers h, and f has all of them
 abbrev pub More : List ℕ → List ℕ → Fields → Type 0
-More text h f = Fits f × ((ns : List ℕ) × Values ns × (held f ≡ h ++ ns) × (text ≡ more ns))
+More text h f = (ns : List ℕ) × Values ns × (held f ≡ h ++ ns) × (text ≡ more ns)
 
 no_nil : {x : ℕ} {xs : List ℕ} → x ∷ xs ≡ [] → ⊥
 no_nil e = let z : ◌≡◌ {A = ℕ} 0 1 = cc in omega arith
@@ -54,9 +54,11 @@ module _ (text after rest : List ℕ) (value : ℕ) (e : text ≡ 32 ∷ after) 
   later_none k j s bar (n ∷ ns) v l t = bar ns v.1 (omega arith) (same n ns v.0 t).1
 
   pub later_more : (h : List ℕ) (g f : Fields) → held g ≡ h ++ value ∷ [] → More rest (held g) f → More text h f
-  later_more h g f one (fits, (ns, v, all, t)) = (
-    fits,
-    (value ∷ ns, (number.0, v), all ∙ ap (λ l. l ++ ns) one ∙ append_assoc h (value ∷ []) ns, e ∙ ap (λ l. 32 ∷ l) (number.2 ∙ ap (λ l. decimal value ++ l) t)),
+  later_more h g f one (ns, v, all, t) = (
+    value ∷ ns,
+    (number.0, v),
+    all ∙ ap (λ l. l ++ ns) one ∙ append_assoc h (value ∷ []) ns,
+    e ∙ ap (λ l. 32 ∷ l) (number.2 ∙ ap (λ l. decimal value ++ l) t),
   )
 
 -- the first number of a line, and those that follow
@@ -66,10 +68,9 @@ module _ (text rest : List ℕ) (value : ℕ) (number : Number text value rest) 
   line_none k s bar (n ∷ ns) v l h t =
       bar ns v.1 (omega arith) (same_number value n rest (more ns) number.0 v.0 number.1 (ends_more ns) (sym number.2 ∙ t)).1
 
-  pub line_more : (g f : Fields) → held g ≡ value ∷ [] → More rest (held g) f → Fits f × Values (held f) × (1 ≤ length (held f)) × (text ≡ written (held f))
-  line_more g f one (fits, (ns, v, all, t)) =
+  pub line_more : (g f : Fields) → held g ≡ value ∷ [] → More rest (held g) f → Values (held f) × (1 ≤ length (held f)) × (text ≡ written (held f))
+  line_more g f one (ns, v, all, t) =
       let is : held f ≡ value ∷ ns = all ∙ ap (λ l. l ++ ns) one in (
-        fits,
         subst Values (sym is) (number.0, v),
         omega (arith, ap length is),
         number.2 ∙ ap (λ l. decimal value ++ l) t ∙ sym (ap written is),

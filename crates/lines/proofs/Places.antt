@@ -5,7 +5,7 @@ use Rattle.orders.specs.Entries.{Writes, Refused}
 use Rattle.orders.specs.declared.order.Order.{Order}
 use Rattle.orders.specs.declared.refusal.Refusal.{Refusal}
 use Rattle.lines.specs.declared.numbers.Fields.{Fields}
-use Rattle.lines.specs.Held.{held, Fits, place_of}
+use Rattle.lines.specs.Held.{held, place_of}
 
 place_in : (v : ℕ) → v ≤ 16 → place_of v ≡ v
 place_in v h = rw (le-ltb 16 v h)
@@ -27,9 +27,9 @@ writes_same a b len o same w = record {
   rest = w.rest;
 }
 
-module _ (f : Fields) (fits : Fits f) (places : List ℕ) (each : (j : ℕ) → j < f.count → get_or places j 0 ≡ place_of (get_or f.values j 0)) where
+module _ (f : Fields) (places : List ℕ) (each : (j : ℕ) → j < f.count → get_or places j 0 ≡ place_of (get_or f.values j 0)) where
   long : length (held f) ≡ f.count
-  long = length-take-le f.count f.values (omega (arith, fits.few, fits.long))
+  long = length-take-le f.count f.values (omega (arith, f.few, f.long))
 
   at : (j : ℕ) → j < f.count → get_or (held f) j 0 ≡ get_or f.values j 0
   at j h = get_or-take f.count f.values j 0 h

@@ -9,7 +9,7 @@ use Rattle.std.proofs.lemmas.Slice.Eq.{bytes_eq-Decides}
 use Rattle.std.proofs.lemmas.Fmt.{digits_value-decimal}
 use Rattle.lines.specs.declared.numbers.Fields.{Fields}
 use Rattle.lines.specs.Format.{Digit, read_on, more, written, Values, Without}
-use Rattle.lines.specs.Held.{held, Fits}
+use Rattle.lines.specs.Held.{held}
 use Rattle.lines.specs.Reading.{cut_by, cut, word_by, words, below, numbers_by, guess, numbers}
 use Rattle.lines.proofs.Fronts.{own, below_64, digits_of}
 
@@ -131,11 +131,10 @@ numbers_read bs ns = by (bytes_eq (written (guess bs)) bs && (below (guess bs) &
 -- the fields that are read, as the definition has them
 pub fields_are : (bs : List ℕ) (r : Option Fields) →
     MatchOption r ((ns : List ℕ) → Values ns → 1 ≤ length ns → length ns ≤ 16 → bs ≡ written ns → ⊥)
-    (λ f. Fits f × Values (held f) × (1 ≤ length (held f)) × (bs ≡ written (held f))) → option_map held r ≡ numbers bs
+    (λ f. Values (held f) × (1 ≤ length (held f)) × (bs ≡ written (held f))) → option_map held r ≡ numbers bs
 fields_are bs (Some f) h =
-    let fits = h.0 in
-    let few = length-take-le f.count f.values (omega (arith, fits.few, fits.long)) in
-    sym (ap numbers h.3 ∙ numbers_written (held f) h.1 h.2 (omega (arith, few, fits.few)))
+    let few = length-take-le f.count f.values (omega (arith, f.few, f.long)) in
+    sym (ap numbers h.2 ∙ numbers_written (held f) h.0 h.1 (omega (arith, few, f.few)))
 fields_are bs None h = by (numbers bs) refl
   where
     by : (r : Option (List ℕ)) → numbers bs ≡ r → None ≡ numbers bs

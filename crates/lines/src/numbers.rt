@@ -1,6 +1,7 @@
 // The numbers of one line.
-ghost use Rattle.std.specs.Prelude.{◌≡◌, ◌≤◌, [], ◌∷◌, ◌++◌, length, MatchOption};
-ghost use Rattle.lines.specs.Held.{held, Fits};
+ghost use Rattle.std.specs.Prelude.{◌≡◌, ◌≤◌, length};
+
+mod gathering;
 
 // How many numbers a line may have.
 pub const MOST: usize = 16;
@@ -10,33 +11,6 @@ pub const MOST: usize = 16;
 pub struct Fields {
     pub values: [u64; MOST],
     pub count: usize,
-}
-
-impl Fields {
-    // No number yet.
-    pub fn none() -> Fields
-        ensures fits { Fits result }
-        ensures held { held result ≡ [] }
-    {
-        Fields {
-            values: [0; MOST],
-            count: 0,
-        }
-    }
-
-    // These numbers and one more, if there is room.
-    pub fn and(self, value: u64) -> Option<Fields>
-        requires { Fits self }
-        ensures { MatchOption result (16 ≤ length (held self)) (λ f. Fits f × (held f ≡ held self ++ value ∷ [])) }
-    {
-        if self.count == MOST {
-            return None;
-        }
-        let mut values = self.values;
-        values[self.count] = value;
-        Some(Fields {
-            values,
-            count: self.count + 1,
-        })
-    }
+    ghost long: { length values ≡ 16 },
+    ghost few: { count ≤ 16 },
 }

@@ -2,7 +2,7 @@
 ghost use Rattle.std.specs.Prelude.{◌≡◌, ℕ, ◌+◌, ◌^◌, ◌<◌, ◌≤◌, List, [], ◌∷◌, ◌++◌, length, take, drop, decimal, Decides, MatchOption, ◌≢◌};
 ghost use Rattle.std.specs.List.{AllByRecursion};
 ghost use Rattle.lines.specs.Format.{Digit, Ends, Plain, read_on, more, written, Values, Without};
-ghost use Rattle.lines.specs.Held.{held, Fits};
+ghost use Rattle.lines.specs.Held.{held};
 
 use super::numbers::Fields;
 
@@ -58,10 +58,9 @@ fn number(text: &[u8]) -> Option<(u64, &[u8])>
 
 // The numbers that follow, each after one blank, put behind those read so far.
 fn following(text: &[u8], so_far: Fields) -> Option<Fields>
-    requires { Fits so_far }
     ensures { MatchOption result
         ((ns : List ℕ) → Values ns → length (held so_far) + length ns ≤ 16 → text.now ≢ more ns)
-        (λ f. Fits f × ((ns : List ℕ) × Values ns × (held f ≡ held so_far ++ ns) × (text.now ≡ more ns))) }
+        (λ f. (ns : List ℕ) × Values ns × (held f ≡ held so_far ++ ns) × (text.now ≡ more ns)) }
 {
     match text {
         [] => Some(so_far),
@@ -77,7 +76,7 @@ fn following(text: &[u8], so_far: Fields) -> Option<Fields>
 pub fn fields(line: &[u8]) -> Option<Fields>
     ensures { MatchOption result
         ((ns : List ℕ) → Values ns → 1 ≤ length ns → length ns ≤ 16 → line.now ≢ written ns)
-        (λ f. Fits f × Values (held f) × (1 ≤ length (held f)) × (line.now ≡ written (held f))) }
+        (λ f. Values (held f) × (1 ≤ length (held f)) × (line.now ≡ written (held f))) }
 {
     let (value, rest) = number(line)?;
     following(rest, Fields::none().and(value)?)

@@ -1,6 +1,6 @@
 // Rows of numbers that are orders.
 ghost use Rattle.std.specs.Prelude.{◌≡◌, ℕ, ◌<◌, length, MatchResult, slice_index};
-ghost use Rattle.lines.specs.Held.{held, Fits, place_of};
+ghost use Rattle.lines.specs.Held.{held, place_of};
 ghost use Rattle.orders.specs.Entries.{Writes, Refused};
 
 use super::numbers::Fields;
@@ -15,7 +15,6 @@ fn place_of(value: u64) -> u8
 
 // The numbers as the places of a row.
 fn places(row: Fields) -> [u8; 16]
-    requires { Fits row }
     ensures { (j : ℕ) → j < row.count → slice_index result j ≡ place_of (slice_index row.values j) }
 {
     let mut places = [0; 16];
@@ -27,7 +26,6 @@ fn places(row: Fields) -> [u8; 16]
 
 // The order that a row of numbers writes out.
 pub fn order_of(row: Fields) -> Result<Order, Refusal>
-    requires { Fits row }
     ensures { MatchResult result (Writes (held row) (length (held row))) (Refused (held row) (length (held row))) }
 {
     Order::from_row(places(row), row.count as u8)

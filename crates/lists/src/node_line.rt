@@ -1,9 +1,10 @@
 // The line of a node in a sheet.
+ghost use Rattle.std.specs.Prelude.{◌≡◌, [], ◌∷◌};
 ghost use Rattle.std.proofs.Common.{rules};
 
 use super::exact::Exact;
 
-#[derive(Clone, Copy, PartialEq, Eq)]
+#[derive(Clone, Copy, PartialEq, Eq, Default)]
 pub struct NodeLine {
     pub x: u64,
     pub y: u64,
@@ -13,4 +14,21 @@ pub struct NodeLine {
 
 impl Exact for NodeLine {
     ghost same = { Prim.search rules };
+}
+
+impl From<[u64; 4]> for NodeLine {
+    ghost from_gives = { λ v r. v ≡ r.x ∷ r.y ∷ r.lo ∷ r.hi ∷ [] };
+
+    fn from(values: [u64; 4]) -> NodeLine {
+        let [x, y, lo, hi] = values;
+        NodeLine { x, y, lo, hi }
+    }
+}
+
+impl From<NodeLine> for [u64; 4] {
+    ghost from_gives = { λ line r. r ≡ line.x ∷ line.y ∷ line.lo ∷ line.hi ∷ [] };
+
+    fn from(line: NodeLine) -> [u64; 4] {
+        [line.x, line.y, line.lo, line.hi]
+    }
 }

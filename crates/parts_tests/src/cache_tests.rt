@@ -12,7 +12,7 @@ fn a_blank_cache_remembers_nothing(rt: HostRuntime) {
     let mut cache = Blank;
     cache.tell(SEVEN, 5);
     assert_eq!(rt; cache.ask(SEVEN), None);
-    assert_eq!(rt; <Blank as Cache>::own_sureness(), 0);
+    assert_eq!(rt; Blank::SURE, 0);
 }
 
 #[test]
@@ -21,7 +21,7 @@ fn slots_surely_remember_the_pair_just_told(rt: HostRuntime) {
     assert_eq!(rt; cache.ask(SEVEN), None);
     cache.tell(SEVEN, 5);
     assert_eq!(rt; cache.ask(SEVEN), Some(5));
-    assert_eq!(rt; <Slots as Cache>::own_sureness(), 1);
+    assert_eq!(rt; Slots::SURE, 1);
 }
 
 #[test]

@@ -7,7 +7,7 @@ use caches::{Cache, Slots, Triple};
 // Asked for the pair just told, any cache gives its answer or none, and a sure one gives its answer.
 pub fn told_and_asked<C: Cache>(cache: &mut C, triple: Triple, answer: u32) -> Option<u32>
     ensures any { (result ≡ Some answer) ⊎ (result ≡ None) }
-    ensures surely { C.sure ≡ 1 → result ≡ Some answer }
+    ensures surely { C.SURE ≡ 1 → result ≡ Some answer }
 {
     cache.tell(triple, answer);
     cache.ask(triple)

@@ -22,10 +22,10 @@ following-requires t c =
     let text = c.args.text.now in
     let blank = after_blank text (omega (arith, ltb-false)) (search rules) in
     let less = shorter text (between 1 (length text) text) c.in_ok-value-in-32.rest.now c.in_ok-value-in-32.value blank c.in_ok-value-in-32.ensures in
-    (omega (arith, less, c.decreases), c.in_ok-and-in-32.ensures.0)
+    omega (arith, less, c.decreases)
 
 pub returns-in-empty : goal.returns-in-empty
-returns-in-empty t c = (c.requires, ([], tt, sym (append-nil (held c.args.so_far)), nil_from_length _ (omega (arith, ltb-true))))
+returns-in-empty t c = ([], tt, sym (append-nil (held c.args.so_far)), nil_from_length _ (omega (arith, ltb-true)))
 
 pub returns-in_ok-and-in-32 : goal.returns-in_ok-and-in-32
 returns-in_ok-and-in-32 t c =
@@ -33,7 +33,7 @@ returns-in_ok-and-in-32 t c =
     let blank = after_blank text (omega (arith, ltb-false)) (search rules) in
     let number = c.in_ok-value-in-32.ensures in
     let next = c.in_ok-and-in-32.field-0 in
-    let one = c.in_ok-and-in-32.ensures.1 in
+    let one = c.in_ok-and-in-32.ensures in
     let rest = c.in_ok-value-in-32.rest.now in
     let value = c.in_ok-value-in-32.value in
     cases_map _ _ _ _ c.following.result

@@ -10,7 +10,7 @@ pub returns : goal.returns
 returns c =
     let next = c.in_ok-and.field-0 in
     let value = c.in_ok-value.value in
-    let one : held next ≡ value ∷ [] = c.in_ok-and.ensures.1 ∙ ap (λ l. l ++ value ∷ []) c.none.ensures.held in
+    let one : held next ≡ value ∷ [] = c.in_ok-and.ensures ∙ ap (λ l. l ++ value ∷ []) c.none.ensures in
     let number = c.in_ok-value.ensures in
     let rest = c.in_ok-value.rest.now in
     cases_map _ _ _ _ c.following.result

@@ -9,6 +9,6 @@ cases_map P P' Q Q' (Err b) f g h = g b h
 pub returns : goal.returns
 returns c =
     cases_map _ _ _ _ c.from_row.result
-    (writes_held c.args.row c.requires c.places.result c.places.ensures)
-    (refused_held c.args.row c.requires c.places.result c.places.ensures)
+    (writes_held c.args.row c.places.result c.places.ensures)
+    (refused_held c.args.row c.places.result c.places.ensures)
     c.from_row.ensures

@@ -1,10 +1,8 @@
-use Rattle.std.proofs.Common.{take, set, ap, ◌∙◌, add-one, arith, length-set, take-suc-set}
+use Rattle.std.proofs.Common.{take, set, ap, ◌∙◌, add-one, arith, take-suc-set}
 use Rattle.lines.proofs.numbers.Fields.and.Goals as goal
 
 pub returns : goal.returns
 returns c =
     let f = c.args.self in
-    let v = c.args.value in (
-      record { few = omega (arith, c.requires.few); long = rw length-set c.requires.long },
-      ap (λ n. take n (set f.values f.count v)) (add-one f.count) ∙ take-suc-set f.values f.count v (omega (arith, c.requires.few, c.requires.long)),
-    )
+    let v = c.args.value in
+    ap (λ n. take n (set f.values f.count v)) (add-one f.count) ∙ take-suc-set f.values f.count v (omega (arith, f.few, f.long))
