@@ -44,7 +44,7 @@ fn hold<G: Chain, C: Cache>(
 ) -> Answer
     requires kept { Kept G.table C.recalls store.old }
     requires racked { Racked (view store.old) (slots_of rack.old) }
-    ensures { Serves G.number G.table C.recalls store.old (Request.Hold name peg) store.new (slots_of rack.new) result }
+    ensures { Serves G.CODE G.table C.recalls store.old (Request.Hold name peg) store.new (slots_of rack.new) result }
 {
     let handle = match name.known(store) {
         Ok(handle) => handle,
@@ -67,7 +67,7 @@ fn hold<G: Chain, C: Cache>(
 fn release<G: Chain, C: Cache>(store: &mut Store<G, C>, rack: &mut Rack, claim: Claim) -> Answer
     requires kept { Kept G.table C.recalls store.old }
     requires racked { Racked (view store.old) (slots_of rack.old) }
-    ensures { Serves G.number G.table C.recalls store.old (Request.Release claim) store.new (slots_of rack.new) result }
+    ensures { Serves G.CODE G.table C.recalls store.old (Request.Release claim) store.new (slots_of rack.new) result }
 {
     match rack.take(claim) {
         Some(hold) => {
@@ -132,7 +132,7 @@ fn sheet<G: Chain, C: Cache>(
     store: &Store<G, C>,
     name: Name,
 ) -> Result<Result<Vec<u8>, Refusal>, AllocError>
-    ensures { IfOk result (λ b. bytes_of b ≡ sheet_on (handle_asked (view store.now) (handle_named name)) (sheet_text G.number (view store.now).nodes name.number) page) }
+    ensures { IfOk result (λ b. bytes_of b ≡ sheet_on (handle_asked (view store.now) (handle_named name)) (sheet_text G.CODE (view store.now).nodes name.number) page) }
 {
     let handle = match name.known(store) {
         Ok(handle) => handle,
@@ -155,7 +155,7 @@ pub(crate) fn serve<G: Chain, C: Cache>(
     requires kept { Kept G.table C.recalls store.old }
     requires racked { Racked (view store.old) (slots_of rack.old) }
     ensures { MatchResult result
-        (Serves G.number G.table C.recalls store.old request.now store.new (slots_of rack.new))
+        (Serves G.CODE G.table C.recalls store.old request.now store.new (slots_of rack.new))
         (λ _. Kept G.table C.recalls store.new × Racked (view store.new) (slots_of rack.new)) }
 {
     match request {

@@ -66,8 +66,8 @@ fn enter<G: Chain, C: Cache>(
 // sheet; or the fault: of the sheet, and then nothing has changed, or of the line whose node found no room, and then the nodes made so far stay.
 pub fn read<G: Chain, C: Cache>(store: &mut Store<G, C>, text: &[u8]) -> Result<Handle, Fault>
     requires { Kept G.table C.recalls store.old }
-    ensures is { (view store.new, result) ≡ reads G.number (view store.old) text.now }
-    ensures sheet { IfOk result (λ h. text.now ≡ sheet_text G.number (view store.new).nodes h.number) }
+    ensures is { (view store.new, result) ≡ reads G.CODE (view store.old) text.now }
+    ensures sheet { IfOk result (λ h. text.now ≡ sheet_text G.CODE (view store.new).nodes h.number) }
     ensures kept { Kept G.table C.recalls store.new }
 {
     let mut room = [BLANK; LINES];

@@ -24,7 +24,7 @@ pub fn write<G: Chain, C: Cache>(
     set: Handle,
     page: &mut [u8],
 ) -> Result<usize, Refusal>
-    ensures { Writes G.number (view store.now) set page.old page.new result }
+    ensures { Writes G.CODE (view store.now) set page.old page.new result }
 {
     let orders = store.count(set)?;
     let mut room = [BLANK; LINES];

@@ -45,60 +45,60 @@ module _ (g : Moves) (laws : ChainLaws g) (cap : ℕ) (B : Type 0) where
     first_meets = subst (Meets g (Set g (rows T) u) (measure (rows T) u) (rows T)) (sym is) (meets g laws (rows T) u (sound_of T) valid)
 
     -- the first task was answered
-    pub opened : (K : Table) (j : Found) → As B (task g cap (rows T) p.low) (rows K) (Ok j) → {rest : Rest} → p.rest ≡ rest
-        → Along whole (measure (rows T) u) K (rest_of rest j.number) j.entries
+    pub opened : (K : Table) (j : Found ℕ) → As B (task g cap (rows T) p.low) (rows K) (Ok j) → {rest : Rest} → p.rest ≡ rest
+        → Along whole (measure (rows T) u) K (rest_of rest j.set) j.entries
     opened K j h {rest} e =
         let d = as_done B _ (rows K) j h in
-        subst (λ (x : Rest). Along whole (measure (rows T) u) K (rest_of x j.number) j.entries) e record {
+        subst (λ (x : Rest). Along whole (measure (rows T) u) K (rest_of x j.set) j.entries) e record {
           n = d.n;
-          is = ap (λ (s : Script). go cap (task g cap) (rows T) s 0) (sym is) ∙ enter_runs g cap (rows T) p.low (rest_of p.rest) 0 (rows K) j.number d.n d.is ∙ ap (go cap (task g cap) (rows K) (rest_of p.rest j.number)) (zero_plus d.n);
+          is = ap (λ (s : Script). go cap (task g cap) (rows T) s 0) (sym is) ∙ enter_runs g cap (rows T) p.low (rest_of p.rest) 0 (rows K) j.set d.n d.is ∙ ap (go cap (task g cap) (rows K) (rest_of p.rest j.set)) (zero_plus d.n);
           counts = d.counts;
           set = Set g (rows T) u;
-          meets = first_meets.2 (rows K) j.number (solved_made g laws cap B (rows T) (sound_of T) p.low first_meets.0 (rows K) j h);
+          meets = first_meets.2 (rows K) j.set (solved_made g laws cap B (rows T) (sound_of T) p.low first_meets.0 (rows K) j h);
         }
       where
         zero_plus : (n : ℕ) → 0 + n ≡ n
         zero_plus n = omega arith
 
     -- or refused
-    pub closed : (K : Table) (x : Refusal) → As B (task g cap (rows T) p.low) (rows K) (Err x) → (r : Result Found Refusal) → IsErrAnd r (λ y. y ≡ x) → As B whole (rows K) r
+    pub closed : (K : Table) (x : Refusal) → As B (task g cap (rows T) p.low) (rows K) (Err x) → (r : Result (Found ℕ) Refusal) → IsErrAnd r (λ y. y ≡ x) → As B whole (rows K) r
     closed K x h r t =
         let f = as_full B _ (rows K) x h in
         as_err B x r t (ap (λ (s : Script). go cap (task g cap) (rows T) s 0) (sym is) ∙ enter_full g cap (rows T) p.low (rest_of p.rest) 0 (rows K) f.0) f.1
 
 module _ {g : Moves} {laws : ChainLaws g} {cap : ℕ} {B : Type 0} {w : Outcome} {m : ℕ} {T : Table} {e : ℕ} where
   -- the end
-  pub ended : {r : ℕ} → Along g laws cap B w m T (answer r) e → As B w (rows T) (Ok (record { number = r; entries = e }))
+  pub ended : {r : ℕ} → Along g laws cap B w m T (answer r) e → As B w (rows T) (Ok (record { set = r; entries = e }))
   ended {r} a = as_ok B record { n = a.n; is = a.is ∙ answer_runs g cap (rows T) r a.n; counts = a.counts }
 
   -- what is left is done by another function
-  pub handed : {s : Script} → Along g laws cap B w m T s e → (K : Table) (r : Result Found Refusal) → Does g cap B (rows T) e s (rows K) r → As B w (rows K) r
+  pub handed : {s : Script} → Along g laws cap B w m T s e → (K : Table) (r : Result (Found ℕ) Refusal) → Does g cap B (rows T) e s (rows K) r → As B w (rows K) r
   handed {s} a K r d = subst (λ o. As B o (rows K) r) (sym a.is) (d a.n a.counts)
 
   module _ {t : Task} {k : ℕ → Script} (a : Along g laws cap B w m T (enter t k) e) where
     -- a task was answered
-    pub entered : (K : Table) (j : Found) → As B (task g cap (rows T) t) (rows K) (Ok j) → {f : ℕ} → f ≡ min (e + j.entries) (2 ^ 64 - 1)
-        → Along g laws cap B w m K (k j.number) f
+    pub entered : (K : Table) (j : Found ℕ) → As B (task g cap (rows T) t) (rows K) (Ok j) → {f : ℕ} → f ≡ min (e + j.entries) (2 ^ 64 - 1)
+        → Along g laws cap B w m K (k j.set) f
     entered K j h {f} q =
         let d = as_done B _ (rows K) j h in
         record {
           n = a.n + d.n;
-          is = a.is ∙ enter_runs g cap (rows T) t k a.n (rows K) j.number d.n d.is;
+          is = a.is ∙ enter_runs g cap (rows T) t k a.n (rows K) j.set d.n d.is;
           counts = count_more B e j.entries a.n d.n f a.counts d.counts q;
           set = a.set;
-          meets = a.meets.2 (rows K) j.number (solved_made g laws cap B (rows T) (sound_of T) t a.meets.0 (rows K) j h);
+          meets = a.meets.2 (rows K) j.set (solved_made g laws cap B (rows T) (sound_of T) t a.meets.0 (rows K) j h);
         }
 
     -- or refused
-    pub refused : (K : Table) (x : Refusal) → As B (task g cap (rows T) t) (rows K) (Err x) → (r : Result Found Refusal) → IsErrAnd r (λ y. y ≡ x) → As B w (rows K) r
+    pub refused : (K : Table) (x : Refusal) → As B (task g cap (rows T) t) (rows K) (Err x) → (r : Result (Found ℕ) Refusal) → IsErrAnd r (λ y. y ≡ x) → As B w (rows K) r
     refused K x h r i =
         let f = as_full B _ (rows K) x h in
         as_err B x r i (a.is ∙ enter_full g cap (rows T) t k a.n (rows K) f.0) f.1
 
   -- the second task of a plan was answered
-  pub second : {t : Task} {last end : Last} → last ≡ end → (r : ℕ) → Along g laws cap B w m T (enter t (last_of last r)) e → (K : Table) (j : Found)
-      → As B (task g cap (rows T) t) (rows K) (Ok j) → {f : ℕ} → f ≡ min (e + j.entries) (2 ^ 64 - 1) → Along g laws cap B w m K (last_of end r j.number) f
-  second q r a K j h {f} p = subst (λ (x : Last). Along g laws cap B w m K (last_of x r j.number) f) q (entered a K j h p)
+  pub second : {t : Task} {last end : Last} → last ≡ end → (r : ℕ) → Along g laws cap B w m T (enter t (last_of last r)) e → (K : Table) (j : Found ℕ)
+      → As B (task g cap (rows T) t) (rows K) (Ok j) → {f : ℕ} → f ≡ min (e + j.entries) (2 ^ 64 - 1) → Along g laws cap B w m K (last_of end r j.set) f
+  second q r a K j h {f} p = subst (λ (x : Last). Along g laws cap B w m K (last_of x r j.set) f) q (entered a K j h p)
 
   module _ {x y lo hi : ℕ} {k : ℕ → Script} (a : Along g laws cap B w m T (make x y lo hi k) e) where
     -- a node was made
@@ -114,7 +114,7 @@ module _ {g : Moves} {laws : ChainLaws g} {cap : ℕ} {B : Type 0} {w : Outcome}
         }
 
     -- or refused
-    pub declined : (K : Table) (z : Refusal) → ((n : ℕ) → Makes (node cap (rows T) x y lo hi n) (rows K) n (Err z)) → (r : Result Found Refusal) → IsErrAnd r (λ v. v ≡ z) → As B w (rows K) r
+    pub declined : (K : Table) (z : Refusal) → ((n : ℕ) → Makes (node cap (rows T) x y lo hi n) (rows K) n (Err z)) → (r : Result (Found ℕ) Refusal) → IsErrAnd r (λ v. v ≡ z) → As B w (rows K) r
     declined K z h r i =
         let f = makes_full _ (rows K) a.n z (h a.n) in
         as_err B z r i (a.is ∙ make_full g cap (rows T) x y lo hi k a.n (rows K) f.0) f.1
@@ -122,14 +122,14 @@ module _ {g : Moves} {laws : ChainLaws g} {cap : ℕ} {B : Type 0} {w : Outcome}
 -- a node, as the end of a rule
 module _ (g : Moves) (cap : ℕ) (B : Type 0) (N : List Node) (x y lo hi : ℕ) (K : Table) (n : ℕ) where
   pub node_answered : (r : ℕ) → ((n : ℕ) → Makes (node cap N x y lo hi n) (rows K) n (Ok r)) → (e : ℕ) → Counts B e n
-      → As B (go cap (task g cap) N (make x y lo hi answer) n) (rows K) (Ok (record { number = r; entries = e }))
+      → As B (go cap (task g cap) N (make x y lo hi answer) n) (rows K) (Ok (record { set = r; entries = e }))
   node_answered r h e c = as_ok B record {
     n = n;
     is = make_runs g cap N x y lo hi answer n (rows K) r n (makes_done _ (rows K) n r (h n)) ∙ answer_runs g cap (rows K) r n;
     counts = c;
   }
 
-  pub node_refused : (z : Refusal) → ((n : ℕ) → Makes (node cap N x y lo hi n) (rows K) n (Err z)) → (r : Result Found Refusal) → IsErrAnd r (λ v. v ≡ z)
+  pub node_refused : (z : Refusal) → ((n : ℕ) → Makes (node cap N x y lo hi n) (rows K) n (Err z)) → (r : Result (Found ℕ) Refusal) → IsErrAnd r (λ v. v ≡ z)
       → As B (go cap (task g cap) N (make x y lo hi answer) n) (rows K) r
   node_refused z h r i =
       let f = makes_full _ (rows K) n z (h n) in
@@ -137,17 +137,17 @@ module _ (g : Moves) (cap : ℕ) (B : Type 0) (N : List Node) (x y lo hi : ℕ) 
 
 -- a join, as the end of a rule
 module _ (g : Moves) (cap : ℕ) (B : Type 0) (N : List Node) (t : Task) (K : Table) (e n : ℕ) (c : Counts B e n) where
-  pub task_answered : (j : Found) → As B (task g cap N t) (rows K) (Ok j) → {f : ℕ} → f ≡ min (e + j.entries) (2 ^ 64 - 1)
-      → As B (go cap (task g cap) N (enter t answer) n) (rows K) (Ok (record { number = j.number; entries = f }))
+  pub task_answered : (j : Found ℕ) → As B (task g cap N t) (rows K) (Ok j) → {f : ℕ} → f ≡ min (e + j.entries) (2 ^ 64 - 1)
+      → As B (go cap (task g cap) N (enter t answer) n) (rows K) (Ok (record { set = j.set; entries = f }))
   task_answered j h {f} q =
       let d = as_done B _ (rows K) j h in
       as_ok B record {
         n = n + d.n;
-        is = enter_runs g cap N t answer n (rows K) j.number d.n d.is ∙ answer_runs g cap (rows K) j.number (n + d.n);
+        is = enter_runs g cap N t answer n (rows K) j.set d.n d.is ∙ answer_runs g cap (rows K) j.set (n + d.n);
         counts = count_more B e j.entries n d.n f c d.counts q;
       }
 
-  pub task_refused : (x : Refusal) → As B (task g cap N t) (rows K) (Err x) → (r : Result Found Refusal) → IsErrAnd r (λ y. y ≡ x)
+  pub task_refused : (x : Refusal) → As B (task g cap N t) (rows K) (Err x) → (r : Result (Found ℕ) Refusal) → IsErrAnd r (λ y. y ≡ x)
       → As B (go cap (task g cap) N (enter t answer) n) (rows K) r
   task_refused x h r i =
       let f = as_full B _ (rows K) x h in

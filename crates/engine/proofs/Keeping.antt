@@ -1,6 +1,7 @@
 -- What is remembered stays right: as the table grows, and as the cache is told. Assumes nothing.
 use Rattle.std.proofs.Common.{◌≡◌, ℕ, ◌≤◌, Bool, List, Some, None, Ok, Err, Option, Result, sym, ap, ◌∙◌, subst, ⊎_elim, arith}
 use Rattle.std.proofs.lemmas.Bool.{cases_eq}
+use Rattle.std.proofs.Math.Logic.{∥∥₁_map}
 use Rattle.orders.specs.declared.order.Order.{Order}
 use Rattle.orders.specs.declared.refusal.Refusal.{Refusal}
 use Rattle.orders.specs.Chains.{ChainLaws}
@@ -96,5 +97,5 @@ module _ (g : Moves) (laws : ChainLaws g) (cap : ℕ) (T K : Table) where
   grown P (full M) n (Ok v) a h = absurd h
   grown P (full M) n (Err e) a h = subst (Extends (rows T)) (sym h.0) a.extends
 
-  pub node_kept : (rc : Recalls) (x y lo hi : ℕ) (r : Result ℕ Refusal) → Asks (rows T) x y lo hi → Makes (node cap (rows T) x y lo hi 0) (rows K) 0 r → Kept g cap (rows T) rc → Kept g cap (rows K) rc
-  node_kept rc x y lo hi r a h k = kept_grown g cap (rows T) rc k laws (rows K) (sound_of T) (sound_of K) (grown _ _ 0 r (node_makes g cap (rows T) (sound_of T) x y lo hi 0 a) h)
+  pub node_kept : (rc : Recalls) (x y lo hi : ℕ) (r : Result ℕ Refusal) → Asks (rows T) x y lo hi → Makes (node cap (rows T) x y lo hi 0) (rows K) 0 r → ∥ Kept g cap (rows T) rc ∥₁ → ∥ Kept g cap (rows K) rc ∥₁
+  node_kept rc x y lo hi r a h kept = ∥∥₁_map kept (λ k. kept_grown g cap (rows T) rc k laws (rows K) (sound_of T) (sound_of K) (grown _ _ 0 r (node_makes g cap (rows T) (sound_of T) x y lo hi 0 a) h))

@@ -5,7 +5,7 @@ use Rattle.orders.specs.declared.order.Order.{Order}
 use Rattle.orders.specs.Orders.{place}
 use Rattle.orders.specs.Dimension.{dimension}
 use Rattle.diagrams.specs.declared.Node.{Node}
-use Rattle.std.specs.Ordering.{Ordering}
+use Rattle.std.specs.declared.cmp.Ordering.{Ordering}
 use Rattle.diagrams.specs.declared.Task.{Task}
 use Rattle.diagrams.specs.declared.Task.TheVariants.{Join, Carry, Follow}
 use Rattle.diagrams.specs.Moves.{Moves, back}

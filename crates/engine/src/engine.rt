@@ -82,7 +82,7 @@ impl<G: Chain, C: Cache> Engine<G, C> {
         requires { Valid (rows self.old.table) task }
         ensures rule { As (Forgets C C.recalls) (task_of G.table self.old.room.nodes (rows self.old.table) task) (rows self.new.table) result }
         ensures room { self.new.room ≡ self.old.room }
-        ensures told { IfOk result (λ j. C.sure ≡ 1 → outright_of task ≡ None → C.recalls self.new.cache (kind_of task) (first_of task) (right_of task) ≡ Some j.set) }
+        ensures told { IfOk result (λ j. C.SURE ≡ 1 → outright_of task ≡ None → C.recalls self.new.cache (kind_of task) (first_of task) (right_of task) ≡ Some j.set) }
         ensures once { Once (C.recalls self.old.cache (kind_of task) (first_of task) (right_of task)) result }
     {
         if let Some(set) = outright(task) {

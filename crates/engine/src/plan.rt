@@ -34,3 +34,11 @@ pub enum Last {
     // the second is carried by the order, and joined to the first
     Move(Order),
 }
+
+// Work on two sets, whose orders are told by which of the two have them.
+#[derive(Clone, Copy)]
+pub enum Pairing {
+    Join,
+    Meet,
+    Without,
+}

@@ -1,17 +1,19 @@
 // The plans of tasks, one function for each kind.
+ghost use Rattle.std.specs.Ordering.{nat_cmp};
 ghost use Rattle.std.specs.Prelude.{◌≡◌, ℕ, false, None, ◌==◌, nat_lt};
 ghost use Rattle.orders.specs.Orders.{place};
 ghost use Rattle.orders.specs.Dimension.{dimension};
 ghost use Rattle.diagrams.specs.Table.{Exists, x_of, level_of};
-ghost use Rattle.diagrams.specs.Bodies.{row, side, join_body, meet_body, without_body, carry_body, follow_body, pick_body, from_of, high_body, body};
+ghost use Rattle.diagrams.specs.Bodies.{row, carry_body, follow_body, pick_body, from_of, high_body, body};
 ghost use Rattle.diagrams.specs.Work.{Valid};
 ghost use Rattle.diagrams.specs.Outright.{outright as outright_of};
 ghost use Rattle.tables.specs.Rows.{rows};
-ghost use Rattle.engine.specs.Plans.{rest_of, script};
+ghost use Rattle.engine.specs.Plans.{rest_of, script, paired_task, first_alone, second_alone, paired_body};
 
-use super::plan::{Last, Plan, Rest};
-use diagrams::{Side, Task};
+use super::plan::{Last, Pairing, Plan, Rest};
+use diagrams::{Node, Task};
 use orders::{Chain, Order};
+use std::cmp::Ordering;
 use tables::Table;
 
 // The plan of a task that is not outright.
@@ -21,83 +23,68 @@ pub fn plan<G: Chain>(nodes: &Table, task: Task) -> Plan
     ensures { script result ≡ body G.table (rows nodes.now) task }
 {
     match task {
-        Task::Join(a, b) => join(nodes, a, b),
-        Task::Meet(a, b) => meet(nodes, a, b),
-        Task::Without(a, b) => without(nodes, a, b),
+        Task::Join(a, b) => paired(nodes, Pairing::Join, a, b),
+        Task::Meet(a, b) => paired(nodes, Pairing::Meet, a, b),
+        Task::Without(a, b) => paired(nodes, Pairing::Without, a, b),
         Task::Carry(a, h) => carry::<G>(nodes, a, h),
         Task::Follow(a, b) => follow::<G>(nodes, a, b),
         Task::Pick(a, k, p) => pick::<G>(nodes, a, k, p),
     }
 }
 
-// The orders of either.
-fn join(nodes: &Table, a: u32, b: u32) -> Plan
-    requires left { Exists (rows nodes.now) a }
-    requires right { Exists (rows nodes.now) b }
-    ensures { script result ≡ join_body a b (row (rows nodes.now) a) (row (rows nodes.now) b) false false (side (level_of (rows nodes.now) a) (level_of (rows nodes.now) b)) }
-{
-    let p = nodes.get(a);
-    let q = nodes.get(b);
-    match nodes.side(a, b) {
-        Side::Level => Plan {
-            low: Task::Join(p.lo, q.lo),
-            rest: Rest::Then(Task::Join(p.hi, q.hi), Last::Both(p.x, p.y)),
-        },
-        Side::Above => Plan {
-            low: Task::Join(p.lo, b),
-            rest: Rest::Over(p.x, p.y, p.hi),
-        },
-        Side::Below => Plan {
-            low: Task::Join(a, q.lo),
-            rest: Rest::Over(q.x, q.y, q.hi),
-        },
+impl Pairing {
+    // This work on two numbers.
+    fn task(self, a: u32, b: u32) -> Task
+        ensures { result ≡ paired_task self a b }
+    {
+        match self {
+            Pairing::Join => Task::Join(a, b),
+            Pairing::Meet => Task::Meet(a, b),
+            Pairing::Without => Task::Without(a, b),
+        }
+    }
+
+    // What becomes of the upper part of a node of the first set, which the second set has no order of.
+    fn first_alone(self, node: Node) -> Rest
+        ensures { result ≡ first_alone self node }
+    {
+        match self {
+            Pairing::Join | Pairing::Without => Rest::Over(node.x, node.y, node.hi),
+            Pairing::Meet => Rest::Pass,
+        }
+    }
+
+    // What becomes of the upper part of a node of the second set, which the first set has no order of.
+    fn second_alone(self, node: Node) -> Rest
+        ensures { result ≡ second_alone self node }
+    {
+        match self {
+            Pairing::Join => Rest::Over(node.x, node.y, node.hi),
+            Pairing::Meet | Pairing::Without => Rest::Pass,
+        }
     }
 }
 
-// The orders of both.
-fn meet(nodes: &Table, a: u32, b: u32) -> Plan
+// Work on two sets: at the higher of their levels each is taken apart.
+fn paired(nodes: &Table, pairing: Pairing, a: u32, b: u32) -> Plan
     requires left { Exists (rows nodes.now) a }
     requires right { Exists (rows nodes.now) b }
-    ensures { script result ≡ meet_body a b (row (rows nodes.now) a) (row (rows nodes.now) b) false false (side (level_of (rows nodes.now) a) (level_of (rows nodes.now) b)) }
+    ensures { script result ≡ paired_body pairing a b (row (rows nodes.now) a) (row (rows nodes.now) b) (nat_cmp (level_of (rows nodes.now) a) (level_of (rows nodes.now) b)) }
 {
     let p = nodes.get(a);
     let q = nodes.get(b);
-    match nodes.side(a, b) {
-        Side::Level => Plan {
-            low: Task::Meet(p.lo, q.lo),
-            rest: Rest::Then(Task::Meet(p.hi, q.hi), Last::Both(p.x, p.y)),
+    match nodes.cmp_levels(a, b) {
+        Ordering::Equal => Plan {
+            low: pairing.task(p.lo, q.lo),
+            rest: Rest::Then(pairing.task(p.hi, q.hi), Last::Both(p.x, p.y)),
         },
-        Side::Above => Plan {
-            low: Task::Meet(p.lo, b),
-            rest: Rest::Pass,
+        Ordering::Greater => Plan {
+            low: pairing.task(p.lo, b),
+            rest: pairing.first_alone(p),
         },
-        Side::Below => Plan {
-            low: Task::Meet(a, q.lo),
-            rest: Rest::Pass,
-        },
-    }
-}
-
-// The orders of the first that the second has not.
-fn without(nodes: &Table, a: u32, b: u32) -> Plan
-    requires left { Exists (rows nodes.now) a }
-    requires right { Exists (rows nodes.now) b }
-    ensures { script result ≡ without_body a b (row (rows nodes.now) a) (row (rows nodes.now) b) false false (side (level_of (rows nodes.now) a) (level_of (rows nodes.now) b)) }
-{
-    let p = nodes.get(a);
-    let q = nodes.get(b);
-    match nodes.side(a, b) {
-        Side::Level => Plan {
-            low: Task::Without(p.lo, q.lo),
-            rest: Rest::Then(Task::Without(p.hi, q.hi), Last::Both(p.x, p.y)),
-        },
-        Side::Above => Plan {
-            low: Task::Without(p.lo, b),
-            rest: Rest::Over(p.x, p.y, p.hi),
-        },
-        Side::Below => Plan {
-            low: Task::Without(a, q.lo),
-            rest: Rest::Pass,
+        Ordering::Less => Plan {
+            low: pairing.task(a, q.lo),
+            rest: pairing.second_alone(q),
         },
     }
 }

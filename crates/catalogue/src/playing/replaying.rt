@@ -26,7 +26,7 @@ fn serve_all<G: Chain, C: Cache>(
     requires racked { Racked (view store.old) (slots_of rack.old) }
     ensures kept { Kept G.table C.recalls store.new }
     ensures racked { Racked (view store.new) (slots_of rack.new) }
-    ensures played { IfOk result (λ answers. Played G.number G.table C.recalls store.old requests.now store.new answers.items) }
+    ensures played { IfOk result (λ answers. Played G.CODE G.table C.recalls store.old requests.now store.new answers.items) }
 {
     let mut answers = Vec::new(heap);
     for request in requests {
@@ -44,9 +44,9 @@ pub fn replay<G: Chain + Drop, C: Cache + Drop, D: Cache>(
     cache: C,
     requests: &[Request],
 ) -> Result<Transcript<G, C>, AllocError>
-    ensures run { IfOk result (Replayed G.number G.table C.recalls plan requests.now) }
-    ensures alike { IfOk result (Alike D.Cache G.number G.table D.recalls plan requests.now) }
-    ensures agreement { Agreement G C D G.Chain C.Cache D.Cache G.number G.table C.recalls D.recalls }
+    ensures run { IfOk result (Replayed G.CODE G.table C.recalls plan requests.now) }
+    ensures alike { IfOk result (Alike D.Cache G.CODE G.table D.recalls plan requests.now) }
+    ensures agreement { Agreement G C D G.Chain C.Cache D.Cache G.CODE G.table C.recalls D.recalls }
 {
     let mut rack = Rack::new(heap)?;
     let mut store = Store::begin(plan, chain, cache);

@@ -10,7 +10,7 @@ impl<G: Chain, C: Cache> Store<G, C> {
     // A call that works out a set: its questions, then the rule of work with the cache.
     pub fn work(&mut self, call: SetCall) -> Result<Found, Refusal>
         requires { Kept G.table C.recalls self.old }
-        ensures { WorksOut G.table C.recalls C.sure self.old call self.new result }
+        ensures { WorksOut G.table C.recalls C.SURE self.old call self.new result }
     {
         let task = self.task_of(call)?;
         let found = self.engine.solve(self.plan.room(), task)?;
@@ -23,7 +23,7 @@ impl<G: Chain, C: Cache> Store<G, C> {
     // The set of one order.
     pub fn single(&mut self, order: Order) -> Result<Found, Refusal>
         requires { Kept G.table C.recalls self.old }
-        ensures { WorksOut G.table C.recalls C.sure self.old (SetCall.Single order) self.new result }
+        ensures { WorksOut G.table C.recalls C.SURE self.old (SetCall.Single order) self.new result }
     {
         self.work(SetCall::Single(order))
     }
@@ -31,7 +31,7 @@ impl<G: Chain, C: Cache> Store<G, C> {
     // The orders of either set (union).
     pub fn join(&mut self, a: Handle, b: Handle) -> Result<Found, Refusal>
         requires { Kept G.table C.recalls self.old }
-        ensures { WorksOut G.table C.recalls C.sure self.old (SetCall.Join a b) self.new result }
+        ensures { WorksOut G.table C.recalls C.SURE self.old (SetCall.Join a b) self.new result }
     {
         self.work(SetCall::Join(a, b))
     }
@@ -39,7 +39,7 @@ impl<G: Chain, C: Cache> Store<G, C> {
     // The orders of both sets (intersection).
     pub fn meet(&mut self, a: Handle, b: Handle) -> Result<Found, Refusal>
         requires { Kept G.table C.recalls self.old }
-        ensures { WorksOut G.table C.recalls C.sure self.old (SetCall.Meet a b) self.new result }
+        ensures { WorksOut G.table C.recalls C.SURE self.old (SetCall.Meet a b) self.new result }
     {
         self.work(SetCall::Meet(a, b))
     }
@@ -47,7 +47,7 @@ impl<G: Chain, C: Cache> Store<G, C> {
     // The orders of the first set that the second has not (difference).
     pub fn without(&mut self, a: Handle, b: Handle) -> Result<Found, Refusal>
         requires { Kept G.table C.recalls self.old }
-        ensures { WorksOut G.table C.recalls C.sure self.old (SetCall.Without a b) self.new result }
+        ensures { WorksOut G.table C.recalls C.SURE self.old (SetCall.Without a b) self.new result }
     {
         self.work(SetCall::Without(a, b))
     }
@@ -55,7 +55,7 @@ impl<G: Chain, C: Cache> Store<G, C> {
     // The orders of the set, each followed by the order (right translate).
     pub fn carry(&mut self, a: Handle, order: Order) -> Result<Found, Refusal>
         requires { Kept G.table C.recalls self.old }
-        ensures { WorksOut G.table C.recalls C.sure self.old (SetCall.Carry a order) self.new result }
+        ensures { WorksOut G.table C.recalls C.SURE self.old (SetCall.Carry a order) self.new result }
     {
         self.work(SetCall::Carry(a, order))
     }
@@ -63,7 +63,7 @@ impl<G: Chain, C: Cache> Store<G, C> {
     // Each order of the first set followed by each of the second (product).
     pub fn follow(&mut self, a: Handle, b: Handle) -> Result<Found, Refusal>
         requires { Kept G.table C.recalls self.old }
-        ensures { WorksOut G.table C.recalls C.sure self.old (SetCall.Follow a b) self.new result }
+        ensures { WorksOut G.table C.recalls C.SURE self.old (SetCall.Follow a b) self.new result }
     {
         self.work(SetCall::Follow(a, b))
     }
@@ -71,7 +71,7 @@ impl<G: Chain, C: Cache> Store<G, C> {
     // The orders of the set that have the piece in the place.
     pub fn pick(&mut self, a: Handle, piece: u8, place: u8) -> Result<Found, Refusal>
         requires { Kept G.table C.recalls self.old }
-        ensures { WorksOut G.table C.recalls C.sure self.old (SetCall.Pick a piece place) self.new result }
+        ensures { WorksOut G.table C.recalls C.SURE self.old (SetCall.Pick a piece place) self.new result }
     {
         self.work(SetCall::Pick(a, piece, place))
     }

@@ -19,7 +19,7 @@ returns-in-Ok-hold g c =
     let s = c.args.store.now in
     let name = handle_named c.args.name in
     let yes = accepted (handle_asked (view s) name) name c.in-Ok.handle c.in-Ok.ensures in
-    held_serves g.G.Chain.number g.G.Chain.table g.C.Cache.recalls s c.hold.new.self (slots_of c.args.rack.now) (slots_of c.put.new.self)
+    held_serves g.G.Chain.CODE g.G.Chain.table g.C.Cache.recalls s c.hold.new.self (slots_of c.args.rack.now) (slots_of c.put.new.self)
     c.args.name c.in-Ok.handle c.args.peg c.in-Ok-hold.hold (record { mark = c.from.result; peg = c.peg.result })
     s.racked c.requires.racked yes.1 c.in-Ok-hold.ensures.does c.put.ensures
     (λ i. record { mark = (c.from.ensures ∙ c.mark.ensures) i; peg = c.peg.ensures i })

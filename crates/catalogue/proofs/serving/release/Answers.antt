@@ -15,10 +15,10 @@ give_back-requires g c =
 
 pub returns-in-Some : goal.returns-in-Some
 returns-in-Some g c =
-    released_serves g.G.Chain.number g.G.Chain.table g.C.Cache.recalls c.args.store.now c.give_back.new.self (slots_of c.args.rack.now) (slots_of c.take.new.self)
+    released_serves g.G.Chain.CODE g.G.Chain.table g.C.Cache.recalls c.args.store.now c.give_back.new.self (slots_of c.args.rack.now) (slots_of c.take.new.self)
     c.args.claim c.in-Some.hold c.args.store.now.racked c.requires.racked c.in-Some.ensures c.give_back.ensures
 
 pub returns-in-None : goal.returns-in-None
 returns-in-None g c =
-    returned_serves g.G.Chain.number g.G.Chain.table g.C.Cache.recalls c.args.store.now (slots_of c.args.rack.now) (slots_of c.take.new.self)
+    returned_serves g.G.Chain.CODE g.G.Chain.table g.C.Cache.recalls c.args.store.now (slots_of c.args.rack.now) (slots_of c.take.new.self)
     c.args.claim c.requires.kept c.requires.racked c.in-None.ensures.0 c.in-None.ensures.1

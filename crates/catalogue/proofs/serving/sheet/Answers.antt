@@ -29,20 +29,20 @@ front-requires g c =
     let w = view c.args.store.now in
     let name = handle_named c.args.name in
     let yes = accepted (handle_asked w name) name c.in-Ok.handle c.in-Ok.ensures in
-    (sheet_fits g.G.Chain.number w name blank c.write.new.page yes.0 c.in-Ok-write.end (named g.G.Chain.number w c.args.name c.in-Ok.handle c.write.new.page _ yes.1 c.in-Ok-write.ensures)).0
+    (sheet_fits g.G.Chain.CODE w name blank c.write.new.page yes.0 c.in-Ok-write.end (named g.G.Chain.CODE w c.args.name c.in-Ok.handle c.write.new.page _ yes.1 c.in-Ok-write.ensures)).0
 
 pub returns-in_ok-front-in-Ok-write : goal.returns-in_ok-front-in-Ok-write
 returns-in_ok-front-in-Ok-write g c =
     let w = view c.args.store.now in
     let name = handle_named c.args.name in
     let yes = accepted (handle_asked w name) name c.in-Ok.handle c.in-Ok.ensures in
-    let fits = sheet_fits g.G.Chain.number w name blank c.write.new.page yes.0 c.in-Ok-write.end (named g.G.Chain.number w c.args.name c.in-Ok.handle c.write.new.page _ yes.1 c.in-Ok-write.ensures) in
-    ap (λ (b : List ℕ). Ok b) c.in_ok-front-in-Ok-write.ensures ∙ on_page _ g.G.Chain.number w c.args.name fits.1
+    let fits = sheet_fits g.G.Chain.CODE w name blank c.write.new.page yes.0 c.in-Ok-write.end (named g.G.Chain.CODE w c.args.name c.in-Ok.handle c.write.new.page _ yes.1 c.in-Ok-write.ensures) in
+    ap (λ (b : List ℕ). Ok b) c.in_ok-front-in-Ok-write.ensures ∙ on_page _ g.G.Chain.CODE w c.args.name fits.1
 
 pub returns-in-Err-write : goal.returns-in-Err-write
 returns-in-Err-write g c =
     let w = view c.args.store.now in
     let name = handle_named c.args.name in
     let yes = accepted (handle_asked w name) name c.in-Ok.handle c.in-Ok.ensures in
-    on_page _ g.G.Chain.number w c.args.name
-    (sheet_short g.G.Chain.number w name blank c.write.new.page yes.0 c.in-Err-write.refusal (named g.G.Chain.number w c.args.name c.in-Ok.handle c.write.new.page _ yes.1 c.in-Err-write.ensures))
+    on_page _ g.G.Chain.CODE w c.args.name
+    (sheet_short g.G.Chain.CODE w name blank c.write.new.page yes.0 c.in-Err-write.refusal (named g.G.Chain.CODE w c.args.name c.in-Ok.handle c.write.new.page _ yes.1 c.in-Err-write.ensures))

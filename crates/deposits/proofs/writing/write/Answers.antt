@@ -14,8 +14,8 @@ returns-in_err-orders g c =
     let w = view c.args.store.now in
     let e = c.in_err-orders.field-0.0 in
     let page = c.args.page.now in
-    subst (Writes g.G.Chain.number w c.args.set page page) (sym (refusal_is e c.from_residual.result c.from_residual.ensures.1))
-    (writes_no g.G.Chain.number w c.args.set page e (asked_no _ _ e c.in_err-orders.ensures.reply))
+    subst (Writes g.G.Chain.CODE w c.args.set page page) (sym (refusal_is e c.from_residual.result c.from_residual.ensures.1))
+    (writes_no g.G.Chain.CODE w c.args.set page e (asked_no _ _ e c.in_err-orders.ensures.reply))
 
 pub list_lines-requires : goal.list_lines-requires
 list_lines-requires g c =
@@ -34,6 +34,6 @@ returns g c =
     let h = c.args.set in
     let yes = accepted _ _ _ c.in_ok-orders.ensures.reply in
     let items = c.items.ensures ∙ c.list_lines.ensures.items ∙ ap (λ (N : List Node). (sheet_of N h.number).lines) c.nodes.ensures.is in
-    let is = text_is g.G.Chain.number w.nodes h.number _ _ _ c.own_code.ensures yes.1 items in
-    writes_yes g.G.Chain.number w h c.args.page.now c.write_sheet.new.page c.write_sheet.result yes.0
+    let is = text_is g.G.Chain.CODE w.nodes h.number _ _ _ c.own_code.ensures yes.1 items in
+    writes_yes g.G.Chain.CODE w h c.args.page.now c.write_sheet.new.page c.write_sheet.result yes.0
     (subst (λ (t : List ℕ). Put c.args.page.now c.write_sheet.new.page 0 t c.write_sheet.result) is c.write_sheet.ensures)

@@ -6,17 +6,17 @@ use Rattle.engine.proofs.planning.plan.Goals as goal
 pub returns-in-Join : goal.returns-in-Join
 returns-in-Join g c =
     let N = rows c.args.nodes.now in
-    read_kind g.G.Chain.table N c.in-Join.is c.join.ensures c.requires.work (join_works g.G.Chain.table N c.in-Join.a c.in-Join.b)
+    read_kind g.G.Chain.table N c.in-Join.is c.paired.ensures c.requires.work (join_works g.G.Chain.table N c.in-Join.a c.in-Join.b)
 
 pub returns-in-Meet : goal.returns-in-Meet
 returns-in-Meet g c =
     let N = rows c.args.nodes.now in
-    read_kind g.G.Chain.table N c.in-Meet.is c.meet.ensures c.requires.work (meet_works g.G.Chain.table N c.in-Meet.a c.in-Meet.b)
+    read_kind g.G.Chain.table N c.in-Meet.is c.paired-in-Meet.ensures c.requires.work (meet_works g.G.Chain.table N c.in-Meet.a c.in-Meet.b)
 
 pub returns-in-Without : goal.returns-in-Without
 returns-in-Without g c =
     let N = rows c.args.nodes.now in
-    read_kind g.G.Chain.table N c.in-Without.is c.without.ensures c.requires.work (without_works g.G.Chain.table N c.in-Without.a c.in-Without.b)
+    read_kind g.G.Chain.table N c.in-Without.is c.paired-in-Without.ensures c.requires.work (without_works g.G.Chain.table N c.in-Without.a c.in-Without.b)
 
 pub returns-in-Carry : goal.returns-in-Carry
 returns-in-Carry g c =

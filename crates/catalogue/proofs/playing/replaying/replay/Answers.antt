@@ -26,7 +26,7 @@ returns-clause-run g c = record {
 
 pub returns-clause-alike : goal.returns-clause-alike
 returns-clause-alike g c =
-    alike g.G.Chain.number g.G.Chain.table g.C.Cache.recalls g.D.Cache g.D.Cache.recalls c.args.plan c.args.requests.now
+    alike g.G.Chain.CODE g.G.Chain.table g.C.Cache.recalls g.D.Cache g.D.Cache.recalls c.args.plan c.args.requests.now
     (record { store = c.give_back.new.store; answers = c.in_ok-served.field-0 })
     (agreed g.row.G.Denot g.row.C.Denot g.row.D.Denot g.G.Chain g.C.Cache g.D.Cache g.met.G.Chain.laws g.met.G.Chain.coded)
     (returns-clause-run g c)

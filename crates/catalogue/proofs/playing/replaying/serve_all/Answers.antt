@@ -7,7 +7,7 @@ use Rattle.catalogue.proofs.playing.replaying.serve_all.Goals as goal
 pub loop-request-init : goal.loop-request-init
 loop-request-init g c =
     let s = c.args.store.now in
-    let code = g.G.Chain.number in
+    let code = g.G.Chain.CODE in
     let moves = g.G.Chain.table in
     let recalls = g.C.Cache.recalls in
     record {
@@ -22,6 +22,6 @@ loop-request-preserved g c =
     record {
       kept = serves.does.kept;
       racked = serves.racked;
-      played = played_more g.G.Chain.number g.G.Chain.table g.C.Cache.recalls c.args.store.now c.loop-request.store c.serve.new.store c.args.requests.now c.loop-request.request-index c.request-item.result
+      played = played_more g.G.Chain.CODE g.G.Chain.table g.C.Cache.recalls c.args.store.now c.loop-request.store c.serve.new.store c.args.requests.now c.loop-request.request-index c.request-item.result
           (vec_items c.loop-request.answers) (vec_items c.push.new.self) c.in_ok-answer.answer c.loop-request-test.true c.request-item.is c.in_ok-push.ensures.items c.loop-request.invariant.played serves.does;
     }

@@ -9,5 +9,5 @@ abbrev pub invariant-loop-request : goal.invariant-loop-request
 invariant-loop-request g l = record {
   kept : Kept g.G.Chain.table g.C.Cache.recalls l.store;
   racked : Racked (view l.store) (slots_of l.rack);
-  played : Played g.G.Chain.number g.G.Chain.table g.C.Cache.recalls l.initial.store (take l.request-index l.requests) l.store (vec_items l.answers);
+  played : Played g.G.Chain.CODE g.G.Chain.table g.C.Cache.recalls l.initial.store (take l.request-index l.requests) l.store (vec_items l.answers);
 }

@@ -1,18 +1,14 @@
-use Rattle.std.proofs.Common.{ℕ, refl, subst}
-use Rattle.diagrams.specs.Rules.{node}
-use Rattle.tables.specs.Rows.{rows, Makes}
+use Rattle.std.proofs.Common.{refl}
 use Rattle.engine.proofs.Keeping.{node_kept}
 use Rattle.engine.proofs.engine.Engine.add.Goals as goal
 
-pub returns : goal.returns
-returns g c =
-    let T = c.args.self.now.table in
-    let K = c.node.new.self in
-    let rule : (n : ℕ) → Makes (node c.args.room.nodes (rows T) c.args.x c.args.y c.args.lo c.args.hi n) (rows K) n c.node.result
-    = λ n. subst (λ k. Makes (node k (rows T) c.args.x c.args.y c.args.lo c.args.hi n) (rows K) n c.node.result) c.nodes.ensures (c.node.ensures n)
-    in
+pub invariant_of-self : goal.invariant_of-self
+invariant_of-self g c =
+    let s = c.args.self.now in
     record {
-      kept = node_kept g.G.Chain.table g.met.G.Chain.laws c.args.room.nodes T K _ _ _ _ _ c.node.result c.requires.asks (rule 0) c.requires.kept;
-      rule = rule;
-      cache = refl;
+      kept = node_kept g.G.Chain.table g.met.G.Chain.laws s.room.nodes s.table c.node.new.self _ _ _ _ _ c.node.result c.requires
+          (rw c.nodes.ensures at (c.node.ensures 0)) s.kept;
     }
+
+pub returns : goal.returns
+returns g c = record { rule = rw c.nodes.ensures at c.node.ensures; room = refl; cache = refl }

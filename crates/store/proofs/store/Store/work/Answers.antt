@@ -78,6 +78,6 @@ returns g c =
         set = rw c.handle.ensures (set_is t w call yes.0 g.met.G.Chain.laws (sound_of s.engine.table) _ _ _ is);
         least = d.counts.least;
         once = λ v e. once_is _ _ v (subst (λ u. Once (recalls_before (kind_of u) (first_of u) (right_of u)) (Ok c.in_ok-found.found)) yes.1 solved.once) e;
-        told = rw c.handle.ensures (subst (λ u. g.C.Cache.sure ≡ 1 → outright u ≡ None → recalls_after (kind_of u) (first_of u) (right_of u) ≡ Some c.in_ok-found.found.number) yes.1 solved.told);
+        told = rw c.handle.ensures (subst (λ u. g.C.Cache.SURE ≡ 1 → outright u ≡ None → recalls_after (kind_of u) (first_of u) (right_of u) ≡ Some c.in_ok-found.found.number) yes.1 solved.told);
       };
     }
