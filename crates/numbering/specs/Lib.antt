@@ -1,4 +1,5 @@
 pub mod Before
 pub mod Numbered
+pub mod Parts
 pub mod Theorems
 pub mod Examples

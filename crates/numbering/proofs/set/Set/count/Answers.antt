@@ -3,7 +3,7 @@ use Rattle.diagrams.specs.declared.Node.{Node}
 use Rattle.diagrams.proofs.Counts.{counted}
 use Rattle.tables.specs.Rows.{rows}
 use Rattle.tables.proofs.Rows.{sound_of}
-use Rattle.numbering.proofs.reading.count.Goals as goal
+use Rattle.numbering.proofs.set.Set.count.Goals as goal
 
 pub returns : goal.returns
 returns c =
@@ -11,6 +11,6 @@ returns c =
     record {
       is = is;
       many = λ g laws.
-          let all = counted g laws (rows c.args.table.now) (sound_of c.args.table.now) c.args.number c.requires in
+          let all = counted g laws (rows c.args.self.table.now) (sound_of c.args.self.table.now) c.args.self.number c.args.self.exists in
           record { list = _; once = all.once; long = all.long ∙ sym is; exact = all.exact };
     }
