@@ -3,6 +3,8 @@ ghost use Rattle.std.specs.Prelude.{◌≡◌, [], ◌∷◌};
 ghost use Rattle.std.proofs.Common.{rules};
 
 use super::exact::Exact;
+use diagrams::Branch;
+use orders::Refusal;
 
 #[derive(Clone, Copy, PartialEq, Eq, Default)]
 pub struct NodeLine {
@@ -30,5 +32,26 @@ impl From<NodeLine> for [u64; 4] {
 
     fn from(line: NodeLine) -> [u64; 4] {
         [line.x, line.y, line.lo, line.hi]
+    }
+}
+
+// A line's values as those of a node: refused where one of them is larger than any node's.
+impl TryFrom<NodeLine> for Branch {
+    type Error = Refusal;
+
+    ghost use Rattle.lists.specs.Branches.{Branches};
+
+    ghost try_from_gives = { Branches };
+
+    fn try_from(line: NodeLine) -> Result<Branch, Refusal> {
+        match (
+            u8::try_from(line.x),
+            u8::try_from(line.y),
+            u32::try_from(line.lo),
+            u32::try_from(line.hi),
+        ) {
+            (Ok(x), Ok(y), Ok(lo), Ok(hi)) => Ok(Branch { x, y, lo, hi }),
+            _ => Err(Refusal::BadNode),
+        }
     }
 }

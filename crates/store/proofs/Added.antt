@@ -1,9 +1,9 @@
 -- A node that is found or added by its four values. Assumes nothing.
-use Rattle.std.proofs.Common.{◌≡◌, ℕ, ◌<◌, ◌≤◌, Bool, true, false, ◌&&◌, ltb, List, Ok, Err, Result, sym, refl, ap, ◌∙◌, subst, arith}
+use Rattle.std.proofs.Common.{◌≡◌, ℕ, ◌^◌, length, ◌<◌, ◌≤◌, Bool, true, false, ◌&&◌, ltb, List, Ok, Err, Result, sym, refl, ap, ◌∙◌, subst, arith}
 use Rattle.std.proofs.lemmas.Bool.Decides.{nat_tests}
 use Rattle.orders.specs.declared.order.Order.{Order}
 use Rattle.orders.specs.declared.refusal.Refusal.{Refusal}
-use Rattle.orders.specs.declared.refusal.Refusal.TheVariants.{NoRoom, BadNode}
+use Rattle.orders.specs.declared.refusal.Refusal.TheVariants.{BadNode}
 use Rattle.diagrams.specs.declared.Node.{Node}
 use Rattle.diagrams.specs.Moves.{Moves}
 use Rattle.diagrams.specs.Level.{level}
@@ -51,6 +51,16 @@ module _ (w : View) (x y lo hi : ℕ) where
         grind (arith, nat_tests),
       )
 
+  -- values that are too large for a node's don't
+  pub large_breaks : length w.nodes ≤ 2046 → ((x < 2 ^ 8) × (y < 2 ^ 8) × (lo < 2 ^ 32) × (hi < 2 ^ 32) → ⊥) → keeps_rules w x y lo hi ≡ false
+  large_breaks few large = by (keeps_rules w x y lo hi) refl
+    where
+      by : (b : Bool) → keeps_rules w x y lo hi ≡ b → b ≡ false
+      by false e = refl
+      by true e =
+          let a = keeps_asks e in
+          absurd (large (omega (arith, a.1), omega (arith, a.0.y_below, a.1), omega (arith, a.0.lo_there), omega (arith, a.0.hi_there)))
+
   pub add_fine : (g : Moves) (o : Outcome) → keeps_rules w x y lo hi ≡ true → node (room_of w) w.nodes x y lo hi 0 ≡ o → worked w o ≡ step g w (adds x y lo hi)
   unfolding node_asked
   add_fine g o e f = rw e (ap (worked w) (sym f))
@@ -58,15 +68,6 @@ module _ (w : View) (x y lo hi : ℕ) where
   pub add_bad : (g : Moves) → keeps_rules w x y lo hi ≡ false → step g w (adds x y lo hi) ≡ (w, declined BadNode)
   unfolding node_asked
   add_bad g e = rw e refl
-
--- what the table answers, as an equation on the rule
-pub made_ok : (o : Outcome) (N : List Node) (r : ℕ) → Makes o N 0 (Ok r) → o ≡ done N r 0
-made_ok (done M s m) N r h = ap (λ X. done X s m) (sym h.0) ∙ ap (λ v. done N v m) (sym h.1) ∙ ap (done N r) h.2
-made_ok (full M) N r h = absurd h
-
-pub made_no : (o : Outcome) (N : List Node) (e : Refusal) → Makes o N 0 (Err e) → (o ≡ full N) × (e ≡ NoRoom)
-made_no (done M s m) N e h = absurd h
-made_no (full M) N e h = (ap full (sym h.0), h.1)
 
 made_grown : (g : Moves) (cap : ℕ) (N : List Node) (P : Order → Bool) (o : Outcome) (M : List Node) (r : Result ℕ Refusal) → rules.Makes g cap N P o → Makes o M 0 r → Extends N M
 made_grown g cap N P (done K s n) M (Ok j) made h = subst (Extends N) (sym h.0) made.extends

@@ -1,6 +1,7 @@
 -- What pegs have, as the table grows. Assumes nothing.
 use Rattle.std.proofs.Common.{◌≡◌, ℕ, zero, suc, ◌<◌, Bool, true, false, ◌&&◌, eqb, ltb, ◌⊎◌, List, [], ◌∷◌, get_or, set, replicate, Some, None, Ok, Err, Option, sym, refl, ◌∙◌, inl, inr, arith}
 use Rattle.std.proofs.lemmas.Bool.Decides.{nat_tests}
+use Rattle.std.specs.Option.{ok_or}
 use Rattle.orders.specs.declared.refusal.Refusal.TheVariants.{NoSuchHold}
 use Rattle.diagrams.specs.declared.Node.{Node}
 use Rattle.diagrams.specs.Table.{Exists, Extends}
@@ -61,3 +62,11 @@ held_some w mark peg n e h f = let t : eqb mark w.plan.mark && ltb peg 64 ≡ tr
 pub held_none : (w : View) (mark peg : ℕ) → mark ≡ w.plan.mark → peg < 64 → get_or w.pegs peg None ≡ None → Err NoSuchHold ≡ held_on w mark peg
 unfolding held_on
 held_none w mark peg e h f = let t : eqb mark w.plan.mark && ltb peg 64 ≡ true = grind (arith, nat_tests) in rw (t, f) refl
+
+-- what is on the peg, once the hold's numbers are the store's
+pub held_ok : (w : View) (mark peg : ℕ) → mark ≡ w.plan.mark → peg < 64 → ok_or (get_or w.pegs peg None) NoSuchHold ≡ held_on w mark peg
+held_ok w mark peg e h = by (get_or w.pegs peg None) refl
+  where
+    by : (o : Option ℕ) → get_or w.pegs peg None ≡ o → ok_or (get_or w.pegs peg None) NoSuchHold ≡ held_on w mark peg
+    by (Some n) f = rw f (held_some w mark peg n e h f)
+    by None f = rw f (held_none w mark peg e h f)

@@ -1,9 +1,8 @@
 -- From the engine's answer to the store's. Assumes nothing.
-use Rattle.std.proofs.Common.{◌≡◌, ℕ, ◌≤◌, Bool, true, false, ◌↔◌, List, IfOk, Some, None, Ok, Err, Option, Result, sym, refl, ap, ◌∙◌, subst, arith}
+use Rattle.std.proofs.Common.{◌≡◌, ℕ, ◌≤◌, Bool, true, false, ◌↔◌, List, Some, None, Ok, Err, Option, Result, sym, refl, ap, ◌∙◌, subst, arith}
 use Rattle.std.proofs.lemmas.Bool.Decides.{nat_tests}
 use Rattle.orders.specs.declared.order.Order.{Order}
 use Rattle.orders.specs.declared.refusal.Refusal.{Refusal}
-use Rattle.orders.specs.declared.refusal.Refusal.TheVariants.{NoRoom}
 use Rattle.orders.specs.Chains.{ChainLaws}
 use Rattle.diagrams.specs.declared.Node.{Node}
 use Rattle.diagrams.specs.declared.Task.{Task}
@@ -13,7 +12,7 @@ use Rattle.diagrams.specs.Rules.{Outcome, done, full, Makes}
 use Rattle.diagrams.specs.Work.{Valid, Set, task}
 use Rattle.diagrams.proofs.Words.{answer_is, single_is}
 use Rattle.diagrams.proofs.Engine.{task_makes}
-use Rattle.engine.specs.Answers.{As, Counts, Once}
+use Rattle.engine.specs.Answers.{As, Once}
 use Rattle.engine.specs.declared.found.Found.{Found as Solved}
 use Rattle.store.specs.declared.shapes.Handle.{Handle}
 use Rattle.store.specs.declared.shapes.SetCall.{SetCall}
@@ -49,7 +48,7 @@ module _ (w : View) where
   spot_there k p h = let most = w.plan.most in grind (arith, nat_tests)
 
   -- a call whose questions are answered may be worked
-  pub valid : (call : SetCall) → call_asked w call ≡ None → Valid w.nodes (task_of call)
+  pub valid : (call : SetCall Handle ℕ) → call_asked w call ≡ None → Valid w.nodes (task_of call)
   valid (Single o) h = omega arith
   valid (Join a b) h = both_there a b h
   valid (Meet a b) h = both_there a b h
@@ -58,25 +57,11 @@ module _ (w : View) where
   valid (Follow a b) h = both_there a b h
   valid (Pick a k p) h = let q = both_fine _ _ h in let s = spot_there k p q.1 in ((handle_there a q.0).1, s.0, s.1, s.2)
 
--- the engine's answer as an equation on the rule
-pub record Done (B : Type 0) (o : Outcome) (N : List Node) (j : Solved) : Type 0 where
-  pub n : ℕ
-  pub is : o ≡ done N j.number n
-  pub counts : Counts B j.entries n
-
-pub as_done : (B : Type 0) (o : Outcome) (N : List Node) (j : Solved) → As B o N (Ok j) → Done B o N j
-as_done B (done M s n) N j h = record { n = n; is = ap (λ X. done X s n) (sym h.0) ∙ ap (λ v. done N v n) (sym h.1); counts = h.2 }
-as_done B (full M) N j h = absurd h
-
-pub as_full : (B : Type 0) (o : Outcome) (N : List Node) (e : Refusal) → As B o N (Err e) → (o ≡ full N) × (e ≡ NoRoom)
-as_full B (done M s n) N e h = absurd h
-as_full B (full M) N e h = (ap full (sym h.0), h.1)
-
-pub once_is : (o : Option ℕ) (j : Solved) (v : ℕ) → Once o (Ok j) → o ≡ Some v → j.entries ≡ 1
+pub once_is : (o : Option ℕ) (j : Solved ℕ) (v : ℕ) → Once o (Ok j) → o ≡ Some v → j.entries ≡ 1
 once_is None j v h e = let z : ◌≡◌ {A = ℕ} 0 1 = cc in absurd (omega arith)
 once_is (Some x) j v h e = h
 
-module _ (g : Moves) (w : View) (call : SetCall) (fine : call_asked w call ≡ None) where
+module _ (g : Moves) (w : View) (call : SetCall Handle ℕ) (fine : call_asked w call ≡ None) where
   -- what the store is and says once the rule has worked
   pub step_is : (o : Outcome) → task g (room_of w) w.nodes (task_of call) ≡ o → worked w o ≡ step g w (sets call)
   step_is o e = ap (worked w) (sym e) ∙ sym (ap (λ a. unless a w (worked w (task g (room_of w) w.nodes (task_of call)))) fine)
@@ -88,7 +73,7 @@ module _ (g : Moves) (w : View) (call : SetCall) (fine : call_asked w call ≡ N
   pub set_is : ChainLaws g → Sound w.nodes → (M : List Node) (r n : ℕ) → task g (room_of w) w.nodes (task_of call) ≡ done M r n → (o : Order) → In g M r o ↔ Wanted g w call o
   set_is laws S M r n e = wanted call (valid w call fine) e
     where
-      wanted : (c : SetCall) → Valid w.nodes (task_of c) → task g (room_of w) w.nodes (task_of c) ≡ done M r n → (o : Order) → In g M r o ↔ Wanted g w c o
+      wanted : (c : SetCall Handle ℕ) → Valid w.nodes (task_of c) → task g (room_of w) w.nodes (task_of c) ≡ done M r n → (o : Order) → In g M r o ↔ Wanted g w c o
       wanted (Single h) v e = single_is g laws w.nodes S h (room_of w) M r n e
       wanted (Join a b) v e = answer_is g laws w.nodes S (task_of (Join a b)) v (room_of w) M r n e
       wanted (Meet a b) v e = answer_is g laws w.nodes S (task_of (Meet a b)) v (room_of w) M r n e
@@ -103,13 +88,13 @@ accepted None v t e = (refl, cc)
 accepted (Some x) v t e = let z : ◌≡◌ {A = ℕ} 0 1 = cc in absurd (omega arith)
 
 -- the table only grows
-as_grown : (B : Type 0) (g : Moves) (cap : ℕ) (N : List Node) (P : Order → Bool) (o : Outcome) (M : List Node) (r : Result Solved Refusal) → Makes g cap N P o → As B o M r → Extends N M
-as_grown B g cap N P (done K s n) M (Ok j) IfOk h = subst (Extends N) (sym h.0) IfOk.extends
-as_grown B g cap N P (done K s n) M (Err e) IfOk h = absurd h
-as_grown B g cap N P (full K) M (Ok j) IfOk h = absurd h
-as_grown B g cap N P (full K) M (Err e) IfOk h = subst (Extends N) (sym h.0) IfOk.extends
+as_grown : (B : Type 0) (g : Moves) (cap : ℕ) (N : List Node) (P : Order → Bool) (o : Outcome) (M : List Node) (r : Result (Solved ℕ) Refusal) → Makes g cap N P o → As B o M r → Extends N M
+as_grown B g cap N P (done K s n) M (Ok j) made h = subst (Extends N) (sym h.0) made.extends
+as_grown B g cap N P (done K s n) M (Err e) made h = absurd h
+as_grown B g cap N P (full K) M (Ok j) made h = absurd h
+as_grown B g cap N P (full K) M (Err e) made h = subst (Extends N) (sym h.0) made.extends
 
-pub grown : (B : Type 0) (g : Moves) → ChainLaws g → (cap : ℕ) (N : List Node) (t : Task) → Sound N → Valid N t → (M : List Node) (r : Result Solved Refusal) → As B (task g cap N t) M r → Extends N M
+pub grown : (B : Type 0) (g : Moves) → ChainLaws g → (cap : ℕ) (N : List Node) (t : Task) → Sound N → Valid N t → (M : List Node) (r : Result (Solved ℕ) Refusal) → As B (task g cap N t) M r → Extends N M
 grown B g laws cap N t S v M r h = as_grown B g cap N (Set g N t) (task g cap N t) M r (task_makes g laws cap N t S v) h
 
 -- the rule with the room of the plan, and with that room under another name

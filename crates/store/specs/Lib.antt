@@ -3,4 +3,5 @@ pub mod Questions
 pub mod Plans
 pub mod Steps
 pub mod Holding
+pub mod Standing
 pub mod Does

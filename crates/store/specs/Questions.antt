@@ -51,7 +51,7 @@ unfoldable pub spot_asked : View → ℕ → ℕ → Option Refusal
 spot_asked w k p = ask ((nat_le 1 k && nat_le k w.plan.pieces) && (nat_le 1 p && nat_le p w.plan.pieces)) OutOfRange None
 
 -- the questions of a call that works out a set
-abbrev pub call_asked : View → SetCall → Option Refusal
+abbrev pub call_asked : View → SetCall Handle ℕ → Option Refusal
 call_asked w (Single o) = order_asked w o
 call_asked w (Join a b) = or_else (handle_asked w a) (handle_asked w b)
 call_asked w (Meet a b) = or_else (handle_asked w a) (handle_asked w b)
@@ -61,7 +61,7 @@ call_asked w (Follow a b) = or_else (handle_asked w a) (handle_asked w b)
 call_asked w (Pick a k p) = or_else (handle_asked w a) (spot_asked w k p)
 
 -- its task on the numbers of the table; single is the carried standing order
-abbrev pub task_of : SetCall → Task
+abbrev pub task_of : SetCall Handle ℕ → Task
 task_of (Single o) = tasks.Carry 1 o
 task_of (Join a b) = tasks.Join a.number b.number
 task_of (Meet a b) = tasks.Meet a.number b.number

@@ -17,7 +17,7 @@ use Rattle.store.specs.Questions.{ask, or_else, handle_asked, peg_asked, held_on
 -- a call, with whatever it may be handed
 pub data Call : Type 0 where
   -- a set is worked out
-  sets : SetCall → Call
+  sets : SetCall Handle ℕ → Call
   -- a node with four values is found or added
   adds : ℕ → ℕ → ℕ → ℕ → Call
   -- a set is put on a peg

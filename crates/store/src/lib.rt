@@ -7,8 +7,9 @@ mod shapes;
 mod store;
 mod theorems;
 
+pub use engine::Found;
 pub use hold::{Hold, Returned};
 pub use plan::Plan;
-pub use shapes::{Found, Handle, SetCall};
+pub use shapes::{Handle, SetCall};
 pub use store::Store;
 pub use theorems::holds_stand;

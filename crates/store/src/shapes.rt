@@ -8,28 +8,21 @@ pub struct Handle {
     pub number: u32,
 }
 
-// A set that was worked out, and how many triples were entered for it.
+// A call that works out a set. S is how it names a set, and N how it names a piece and a place.
 #[derive(Clone, Copy)]
-pub struct Found {
-    pub handle: Handle,
-    pub entries: u64,
-}
-
-// A call that works out a set.
-#[derive(Clone, Copy)]
-pub enum SetCall {
+pub enum SetCall<S, N> {
     // the order alone
     Single(Order),
     // the orders of either (union)
-    Join(Handle, Handle),
+    Join(S, S),
     // the orders of both (intersection)
-    Meet(Handle, Handle),
+    Meet(S, S),
     // the orders of the first that the second has not (difference)
-    Without(Handle, Handle),
+    Without(S, S),
     // the orders of the set, each followed by the order (right translate)
-    Carry(Handle, Order),
+    Carry(S, Order),
     // each order of the first followed by each of the second (product)
-    Follow(Handle, Handle),
+    Follow(S, S),
     // the orders of the set with the piece in the place
-    Pick(Handle, u8, u8),
+    Pick(S, N, N),
 }

@@ -28,4 +28,5 @@ pub struct Store<G: Chain, C: Cache> {
     engine: Engine<G, C>,
     ghost racked: { length pegs ≡ 64 },
     ghost pegged: { Pegged (rows engine.table) pegs },
+    ghost roomed: { engine.room ≡ plan.room },
 }

@@ -6,6 +6,7 @@ ghost use Rattle.sweeps.specs.Sweeping.{on_peg};
 ghost use Rattle.sweeps.specs.Marks.{test, Closed, Remaking};
 
 use crate::{NUMBERS, PEGS};
+use diagrams::Branch;
 use tables::{ROOM, Table};
 
 // A table made again, and the new number of each number that was marked.
@@ -33,7 +34,13 @@ fn remake(
         let row = table.get(number as u32);
         let lo = numbers[row.lo as usize];
         let hi = numbers[row.hi as usize];
-        if let Ok(new) = fresh.node(ROOM, row.x, row.y, lo, hi) {
+        let branch = Branch {
+            x: row.x,
+            y: row.y,
+            lo,
+            hi,
+        };
+        if let Ok(new) = fresh.node(ROOM, branch) {
             numbers[number] = new;
         }
     }

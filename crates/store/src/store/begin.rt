@@ -14,13 +14,13 @@ use orders::Chain;
 impl<G: Chain, C: Cache> Store<G, C> {
     // A store with no node, from a tested plan, a chain and a cache. The cache is emptied first.
     pub fn begin(plan: Plan, chain: G, cache: C) -> Store<G, C>
-        ensures { Begun G.table C.recalls plan result }
+        ensures { Begun plan result }
     {
         Store {
             plan,
             season: plan.season(),
             pegs: [None; PEGS],
-            engine: Engine::new(chain, cache),
+            engine: Engine::new(plan.room(), chain, cache),
         }
     }
 

@@ -1,16 +1,18 @@
 // Nodes by their numbers and their values, for what is built on the store.
-ghost use Rattle.std.specs.Prelude.{◌≡◌, ◌≤◌, length};
+ghost use Rattle.std.specs.Prelude.{◌≡◌, ◌≤◌, length, MatchResult};
 ghost use Rattle.diagrams.specs.Bodies.{row};
 ghost use Rattle.diagrams.specs.Table.{Sound};
 ghost use Rattle.store.specs.Views.{view};
 ghost use Rattle.store.specs.Questions.{answered, number_asked};
 ghost use Rattle.store.specs.Steps.{adds, keeps_rules};
-ghost use Rattle.store.specs.Does.{Kept, Does, handle_reply};
+ghost use Rattle.store.specs.Standing.{Stands, Falls};
+ghost use Rattle.store.specs.Does.{Does, handle_reply};
 
 use super::Store;
 use crate::shapes::Handle;
 use caches::Cache;
-use diagrams::{Node, level};
+use diagrams::{Branch, Node, level};
+use lists::NodeLine;
 use orders::{Chain, Refusal};
 
 impl<G: Chain, C: Cache> Store<G, C> {
@@ -33,36 +35,38 @@ impl<G: Chain, C: Cache> Store<G, C> {
         self.engine.table().nodes()
     }
 
-    // Whether four values are those of a node that may stand in the store.
-    fn keeps_rules(&self, x: u64, y: u64, lo: u64, hi: u64) -> bool
-        ensures { result ≡ keeps_rules (view self.now) x y lo hi }
+    // Whether a branch is that of a node that may stand in the store.
+    fn may_stand(&self, branch: Branch) -> bool
+        ensures { result ≡ keeps_rules (view self.now) branch.x branch.y branch.lo branch.hi }
     {
-        let numbers = self.engine.table().len() as u64 + 2;
-        if x > self.plan.pieces() as u64
-            || y < 1
-            || y >= x
-            || lo >= numbers
-            || hi >= numbers
-            || hi < 1
-        {
+        let Branch { x, y, lo, hi } = branch;
+        let table = self.engine.table();
+        if x > self.plan.pieces() || y < 1 || y >= x || hi < 1 {
             return false;
         }
-        let low = self.engine.table().get(lo as u32);
-        let high = self.engine.table().get(hi as u32);
-        level(low.x, low.y) < level(x as u8, y as u8) && (high.x as u64) < x
+        if !table.exists(lo) || !table.exists(hi) {
+            return false;
+        }
+        table.level_of(lo) < level(x, y) && table.get(hi).x < x
+    }
+
+    // The branch that four values make of a node that may stand in the store; refused by 16 where they make none.
+    fn branch_of(&self, line: NodeLine) -> Result<Branch, Refusal>
+        ensures { MatchResult result (Stands (view self.now) line) (Falls (view self.now) line) }
+    {
+        let branch = Branch::try_from(line)?;
+        if !self.may_stand(branch) {
+            return Err(Refusal::BadNode);
+        }
+        Ok(branch)
     }
 
     // The node with these four values, found or added.
-    pub fn add(&mut self, x: u64, y: u64, lo: u64, hi: u64) -> Result<Handle, Refusal>
-        requires { Kept G.table C.recalls self.old }
-        ensures { Does G.table C.recalls self.old (adds x y lo hi) self.new (handle_reply result) 0 }
+    pub fn add(&mut self, line: NodeLine) -> Result<Handle, Refusal>
+        ensures { Does self.old (adds line.x line.y line.lo line.hi) self.new (handle_reply result) 0 }
     {
-        if !self.keeps_rules(x, y, lo, hi) {
-            return Err(Refusal::BadNode);
-        }
-        let number = self
-            .engine
-            .add(self.plan.room(), x as u8, y as u8, lo as u32, hi as u32)?;
+        let branch = self.branch_of(line)?;
+        let number = self.engine.add(branch)?;
         Ok(self.handle(number))
     }
 }

@@ -3,7 +3,7 @@ ghost use Rattle.std.specs.Prelude.{◌≡◌, IfOk};
 ghost use Rattle.store.specs.Views.{view};
 ghost use Rattle.store.specs.Questions.{answered, peg_asked, held_on};
 ghost use Rattle.store.specs.Steps.{holds, releases, released, handle_held};
-ghost use Rattle.store.specs.Does.{Kept, Does, hold_reply, release_reply};
+ghost use Rattle.store.specs.Does.{Does, hold_reply, release_reply};
 ghost use Rattle.store.specs.Holding.{Holds};
 
 use super::{PEGS, Store};
@@ -28,8 +28,7 @@ impl<G: Chain, C: Cache> Store<G, C> {
 
     // Puts a set on an empty peg, and gives the hold on it.
     pub fn hold(&mut self, handle: Handle, peg: u64) -> Result<Hold, Refusal>
-        requires { Kept G.table C.recalls self.old }
-        ensures does { Does G.table C.recalls self.old (holds handle peg) self.new (hold_reply result) 0 }
+        ensures does { Does self.old (holds handle peg) self.new (hold_reply result) 0 }
         ensures given { IfOk result (Holds (view self.new)) }
     {
         let number = self.number_of(handle)?;
@@ -42,33 +41,29 @@ impl<G: Chain, C: Cache> Store<G, C> {
     }
 
     // The number of the set on the peg of a hold, which has the store's mark.
-    fn held_number(&self, mark: u32, peg: u64) -> Result<u32, Refusal>
-        ensures { result ≡ held_on (view self.now) mark peg }
+    fn held_number(&self, hold: &Hold) -> Result<u32, Refusal>
+        ensures { result ≡ held_on (view self.now) hold.now.mark hold.now.peg }
     {
+        let (mark, peg) = (hold.mark, hold.peg);
         if mark != self.plan.mark() || peg >= PEGS as u64 {
             return Err(Refusal::NoSuchHold);
         }
-        let on_peg = self.pegs[peg as usize];
-        match on_peg {
-            Some(number) => Ok(number),
-            None => Err(Refusal::NoSuchHold),
-        }
+        self.pegs[peg as usize].ok_or(Refusal::NoSuchHold)
     }
 
     // The present handle of the set that a hold keeps.
     pub fn held(&self, hold: &Hold) -> Result<Handle, Refusal>
         ensures { result ≡ handle_held (view self.now) hold.now }
     {
-        let number = self.held_number(hold.mark(), hold.peg())?;
+        let number = self.held_number(hold)?;
         Ok(self.handle(number))
     }
 
     // Takes a hold back and empties its peg. A hold that is declined comes back.
     pub fn release(&mut self, hold: Hold) -> Result<(), Returned>
-        requires { Kept G.table C.recalls self.old }
-        ensures { Does G.table C.recalls self.old (releases hold) self.new (release_reply result) 0 }
+        ensures { Does self.old (releases hold) self.new (release_reply result) 0 }
     {
-        if let Err(refusal) = self.held_number(hold.mark, hold.peg) {
+        if let Err(refusal) = self.held_number(&hold) {
             return Err(Returned { refusal, hold });
         }
         let peg = hold.spend();
@@ -78,9 +73,8 @@ impl<G: Chain, C: Cache> Store<G, C> {
 
     // Takes back a hold that the store is known to have, which is never declined.
     pub fn give_back(&mut self, hold: Hold)
-        requires kept { Kept G.table C.recalls self.old }
-        requires holds { Holds (view self.old) hold }
-        ensures { Does G.table C.recalls self.old (releases hold) self.new released 0 }
+        requires { Holds (view self.old) hold }
+        ensures { Does self.old (releases hold) self.new released 0 }
     {
         match self.release(hold) {
             Ok(()) => {}

@@ -79,7 +79,7 @@ impl<G: Chain, C: Cache> Store<G, C> {
     }
 
     // The task of a call, once its questions are answered.
-    pub(super) fn task_of(&self, call: SetCall) -> Result<Task, Refusal>
+    pub(super) fn task_of(&self, call: SetCall<Handle, u8>) -> Result<Task, Refusal>
         ensures { result ≡ answered (call_asked (view self.now) call) (task_of call) }
     {
         match call {

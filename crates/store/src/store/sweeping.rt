@@ -4,7 +4,7 @@ ghost use Rattle.caches.specs.Recall.{Emptied};
 ghost use Rattle.sweeps.specs.Theorems.{Sweep};
 ghost use Rattle.store.specs.Views.{view};
 ghost use Rattle.store.specs.Steps.{sweep};
-ghost use Rattle.store.specs.Does.{Kept, Does, sweep_reply};
+ghost use Rattle.store.specs.Does.{Does, sweep_reply};
 ghost use Rattle.store.specs.Holding.{Holds};
 ghost use Rattle.store.specs.declared.hold.Hold.{Hold};
 
@@ -17,8 +17,7 @@ impl<G: Chain, C: Cache> Store<G, C> {
     // Drops every node that no peg reaches and numbers the others from 2 in their former order; the cache forgets, and a new
     // season begins, so that older handles are declined. Answers how many nodes are left.
     pub fn sweep(&mut self) -> Result<usize, Refusal>
-        requires { Kept G.table C.recalls self.old }
-        ensures does { Does G.table C.recalls self.old sweep self.new (sweep_reply result) 0 }
+        ensures does { Does self.old sweep self.new (sweep_reply result) 0 }
         ensures law { OnOk result (Sweep (view self.old).nodes (view self.old).pegs) }
         ensures lasts { (h : Hold) → Holds (view self.old) h → Holds (view self.new) h }
         ensures forgot { OnOk result (Emptied (C.recalls self.new.engine.cache)) }

@@ -22,6 +22,7 @@ invariant_of-self g c =
     let there : Exists w.nodes c.in_ok-number.number = rw yes.1 (handle_there w c.args.handle yes.0).1 in
     record {
       racked = rw length-set s.racked;
+      roomed = s.roomed;
       pegged = pegged_set w.nodes s.pegs c.args.peg (Some c.in_ok-number.number) s.pegged (λ n e. some_there w.nodes _ n there e);
     }
 
@@ -42,7 +43,6 @@ returns g c =
     record {
       does = record {
         after = after;
-        kept = c.requires;
         most = zero-le;
         just = λ never. refl;
       };

@@ -14,7 +14,7 @@ pub invariant_of-self : goal.invariant_of-self
 invariant_of-self g c =
     let s = c.args.self.now in
     let w = view s in
-    record { racked = rw length-set s.racked; pegged = pegged_set w.nodes s.pegs c.spend-peg.result None s.pegged (none_there w.nodes) }
+    record { racked = rw length-set s.racked; roomed = s.roomed; pegged = pegged_set w.nodes s.pegs c.spend-peg.result None s.pegged (none_there w.nodes) }
 
 pub returns : goal.returns
 returns g c =
@@ -22,7 +22,6 @@ returns g c =
     let h = c.args.hold in
     record {
       after = ap (λ p. (with_pegs w (set w.pegs p None), released)) c.spend-peg.ensures ∙ ap (released_by w h) c.in_default.ensures;
-      kept = c.requires;
       most = zero-le;
       just = λ never. refl;
     }

@@ -13,7 +13,6 @@ pub returns-then-self : goal.returns-then-self
 returns-then-self g c = record {
   does = record {
     after = sweep_last g.G.Chain.table (view c.args.self.now) c.if-self.true;
-    kept = c.requires;
     most = zero-le;
     just = λ never. refl;
   };
@@ -35,6 +34,7 @@ invariant_of-self g c =
     let pegs : c.sweep.result.pegs ≡ pegs_after N P = c.sweep.ensures.held ∙ ap (λ t. pegs_after (rows t) P) c.table.ensures in
     record {
       racked = ap length pegs ∙ pegs_long N P ∙ s.racked;
+      roomed = c.replace.ensures.room ∙ s.roomed;
       pegged = λ p n e. rw nodes (pegs_there N P (sound_of s.engine.table) s.pegged p n (ap (λ l. get_or l p None) (sym pegs) ∙ e));
     }
 
@@ -54,7 +54,6 @@ returns g c =
     record {
       does = record {
         after = after;
-        kept = c.replace.ensures.kept w.plan.room.nodes;
         most = zero-le;
         just = λ never. refl;
       };
