@@ -40,7 +40,7 @@ fn digits_of(row: [u8; 16], len: u8) -> [u8; 16]
 }
 
 impl Order {
-    // The order with this code, if there is one.
+    // The order with this code, if there is one. No refusal says that there is none, so this is no TryFrom.
     pub fn from_code(code: u64) -> Option<Order>
         ensures { Made code result }
     {
@@ -60,11 +60,13 @@ impl Order {
         }
         Order::from_code(packed(digits_of(row, len))).ok_or(Refusal::BadRow)
     }
+}
 
-    // The place of each piece, in the pieces' order.
-    pub fn row(self) -> [u8; 16]
-        ensures { result ≡ row_of self }
-    {
-        from_fn(|j| digit_of(self.code, j as u8) + 1)
+// The place of each piece, in the pieces' order.
+impl From<Order> for [u8; 16] {
+    ghost from_gives = { λ order row. row ≡ row_of order };
+
+    fn from(order: Order) -> [u8; 16] {
+        from_fn(|j| digit_of(order.code, j as u8) + 1)
     }
 }
