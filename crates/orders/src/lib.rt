@@ -10,7 +10,7 @@ mod refusal;
 
 pub use chain::Chain;
 pub use factoring::{factors, product};
-pub use laws::{examples_stand, factoring_stands, laws_stand};
+pub use laws::{equality_stands, examples_stand, factoring_stands, laws_stand};
 pub use moves::{Rotation, Swap};
 pub use order::Order;
 pub use refusal::Refusal;

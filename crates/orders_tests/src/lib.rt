@@ -27,7 +27,7 @@ mod examples {
 
     #[test]
     fn a_row_read_back_is_the_order(rt: HostRuntime) -> Result<(), Fail> {
-        let row = order([3, 1, 4, 2], 4)?.row();
+        let row = <[u8; 16]>::from(order([3, 1, 4, 2], 4)?);
         assert!(rt; row[0] == 3 && row[1] == 1 && row[2] == 4 && row[3] == 2);
         assert!(rt; row[4] == 5 && row[15] == 16);
         Ok(())
@@ -36,8 +36,8 @@ mod examples {
     #[test]
     fn an_orders_row_and_code_make_it_again(rt: HostRuntime) -> Result<(), Fail> {
         let a = order([3, 1, 4, 2], 4)?;
-        assert!(rt; Order::from_row(a.row(), 16) == Ok(a));
-        assert!(rt; Order::from_code(a.code()) == Some(a));
+        assert!(rt; Order::from_row(a.into(), 16) == Ok(a));
+        assert!(rt; Order::from_code(a.into()) == Some(a));
         Ok(())
     }
 

@@ -1,11 +1,12 @@
 // Orders from numbers and rows, and back.
-ghost use Rattle.std.specs.Prelude.{◌≡◌, ℕ, suc, ◌+◌, ◌<◌, ◌≤◌, ◌⊎◌, MatchBool, MatchOption, MatchResult, ◌≢◌, slice_index};
+ghost use Rattle.std.specs.Prelude.{◌≡◌, ℕ, suc, ◌+◌, ◌<◌, ◌≤◌, Decides, MatchBool, MatchResult, ◌≢◌, slice_index};
 ghost use Rattle.orders.specs.Digits.{digit};
-ghost use Rattle.orders.specs.Entries.{Made, Writes, Refused, row_of};
+ghost use Rattle.orders.specs.Entries.{Made, Within, Writes, Refused, row_of};
 
 use super::Order;
 use super::build::{digit_of, packed};
 use crate::refusal::Refusal;
+use std::array::from_fn;
 
 // Whether the digit of `code` at j stands at an earlier place too.
 fn repeats(code: u64, j: u8) -> bool
@@ -13,39 +14,38 @@ fn repeats(code: u64, j: u8) -> bool
     ensures { MatchBool result ((i : ℕ) × (i < j) × (digit code i ≡ digit code j)) ((i : ℕ) → i < j → digit code i ≢ digit code j) }
 {
     let d = digit_of(code, j);
-    for i in 0..j {
-        if digit_of(code, i) == d {
-            return true;
-        }
-    }
-    false
+    (0..j).any(|i| digit_of(code, i) == d)
 }
 
-// The digits that a row of `len` entries stands for, unless an entry is outside 1 to `len`.
-fn digits_of(row: [u8; 16], len: u8) -> Option<[u8; 16]>
+// Whether the first `len` entries are each from 1 to `len`.
+fn is_within(row: [u8; 16], len: u8) -> bool
     requires { len ≤ 16 }
-    ensures { MatchOption result ((j : ℕ) × (j < len) × ((slice_index row j ≡ 0) ⊎ (len < slice_index row j))) (λ ds. ((j : ℕ) → j < len → (slice_index ds j < len) × (slice_index ds j + 1 ≡ slice_index row j)) × ((j : ℕ) → len ≤ j → j < 16 → slice_index ds j ≡ j)) }
+    ensures { Decides result (Within row len) }
 {
-    let mut digits = [0, 1, 2, 3, 4, 5, 6, 7, 8, 9, 10, 11, 12, 13, 14, 15];
-    for j in 0..len {
-        let v = row[j as usize];
-        if v == 0 || v > len {
-            return None;
-        }
-        digits[j as usize] = v - 1;
-    }
-    Some(digits)
+    row[..len as usize].iter().all(|v| 1 <= *v && *v <= len)
+}
+
+// The digits that a row of `len` entries stands for.
+fn digits_of(row: [u8; 16], len: u8) -> [u8; 16]
+    requires few { len ≤ 16 }
+    requires within { Within row len }
+    ensures front { (j : ℕ) → j < len → (slice_index result j < len) × (slice_index result j + 1 ≡ slice_index row j) }
+    ensures back { (j : ℕ) → len ≤ j → j < 16 → slice_index result j ≡ j }
+{
+    from_fn(|j| if j < len as usize {
+        row[j] - 1
+    } else {
+        j as u8
+    })
 }
 
 impl Order {
-    // The order with this code, if there is one.
+    // The order with this code, if there is one. No refusal says that there is none, so this is no TryFrom.
     pub fn from_code(code: u64) -> Option<Order>
         ensures { Made code result }
     {
-        for j in 0..16 {
-            if repeats(code, j) {
-                return None;
-            }
+        if (0..16).any(|j| repeats(code, j)) {
+            return None;
         }
         Some(Order { code })
     }
@@ -55,26 +55,18 @@ impl Order {
     pub fn from_row(row: [u8; 16], len: u8) -> Result<Order, Refusal>
         ensures { MatchResult result (Writes row len) (Refused row len) }
     {
-        if len == 0 || len > 16 {
+        if len == 0 || len > 16 || !is_within(row, len) {
             return Err(Refusal::BadRow);
         }
-        let Some(digits) = digits_of(row, len) else {
-            return Err(Refusal::BadRow);
-        };
-        match Order::from_code(packed(digits)) {
-            Some(order) => Ok(order),
-            None => Err(Refusal::BadRow),
-        }
+        Order::from_code(packed(digits_of(row, len))).ok_or(Refusal::BadRow)
     }
+}
 
-    // The place of each piece, in the pieces' order.
-    pub fn row(self) -> [u8; 16]
-        ensures { result ≡ row_of self }
-    {
-        let mut row = [0; 16];
-        for j in 0..16u8 {
-            row[j as usize] = digit_of(self.code, j) + 1;
-        }
-        row
+// The place of each piece, in the pieces' order.
+impl From<Order> for [u8; 16] {
+    ghost from_gives = { λ order row. row ≡ row_of order };
+
+    fn from(order: Order) -> [u8; 16] {
+        from_fn(|j| digit_of(order.code, j as u8) + 1)
     }
 }
