@@ -1,5 +1,5 @@
 -- Entering lines, one after the other.
-use Rattle.std.proofs.Common.{◌≡◌, ℕ, zero, suc, ◌+◌, ◌-◌, ◌<◌, ◌≤◌, List, [], ◌∷◌, ◌++◌, length, get_or, Some, None, Ok, Err, Option, Result, sym, refl, ap, ◌∙◌, ap₂, arith}
+use Rattle.std.proofs.Common.{◌≡◌, ℕ, ◌+◌, ◌<◌, List, [], ◌∷◌, ◌++◌, length, get_or, Some, None, Ok, Err, Option, Result, sym, refl, ap, ◌∙◌, ap₂, arith}
 use Rattle.std.specs.List.{between}
 use Rattle.std.proofs.lemmas.Slice.{first_rest}
 use Rattle.std.proofs.lemmas.List.{nil_from_length}
@@ -19,17 +19,6 @@ use Rattle.store.specs.Views.{View, with_nodes}
 use Rattle.store.specs.Views as views
 use Rattle.store.specs.Steps.{Reply, After, found, declined, held, released, returned, left, adds, node_asked, unless, worked, step}
 use Rattle.deposits.specs.Reading.{in_store, Entry, enters_by, enters, reads_by, reads}
-
--- beyond the numbers stands 0
-pub taken_beyond : (rs : List ℕ) (k : ℕ) → 2 ≤ k → length rs ≤ k - 2 → taken rs k ≡ 0
-taken_beyond rs zero a b = absurd (omega arith)
-taken_beyond rs (suc zero) a b = absurd (omega arith)
-taken_beyond rs (suc (suc i)) a b = beyond rs i (omega (arith, b))
-  where
-    beyond : (l : List ℕ) (i : ℕ) → length l ≤ i → get_or l i 0 ≡ 0
-    beyond [] i h = refl
-    beyond (a ∷ l) zero h = absurd (omega arith)
-    beyond (a ∷ l) (suc i) h = beyond l i (omega (arith, h))
 
 -- what the store answered, as entering has it
 numbered : Reply → ℕ

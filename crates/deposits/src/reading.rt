@@ -1,33 +1,18 @@
 // A sheet, read into a store.
 ghost use Rattle.std.specs.Prelude.{◌≡◌, ◌+◌, ◌≤◌, length, IfOk};
 ghost use Rattle.lists.specs.Items.{items_of, room_of};
-ghost use Rattle.forms.specs.Marks.{taken};
 ghost use Rattle.store.specs.Views.{view};
 ghost use Rattle.store.specs.Does.{Kept};
 ghost use Rattle.deposits.specs.Reading.{enters, Gave, reads};
 ghost use Rattle.deposits.specs.Writing.{sheet_text};
 
-use super::writing::{BLANK, LINES};
+use super::writing::BLANK;
 use caches::Cache;
 use lists::{Filled, NodeLine};
 use orders::Chain;
-use sheets::{Fault, Part, check};
+use sheets::{Fault, Part, check, number_of};
 use store::{Handle, Store};
-
-// The number in the store of a number in the sheet, by those of the lines: 0 and 1 keep theirs.
-fn number_of(numbers: &[u32], k: u64) -> u32
-    ensures { result ≡ taken numbers.now k }
-{
-    if k < 2 {
-        return k as u32;
-    }
-    let place = k as usize - 2;
-    if place < numbers.len() {
-        numbers[place]
-    } else {
-        0
-    }
-}
+use tables::ROOM;
 
 // Finds or adds the node of each line, and lists the number that it has in the store.
 fn enter<G: Chain, C: Cache>(
@@ -70,10 +55,10 @@ pub fn read<G: Chain, C: Cache>(store: &mut Store<G, C>, text: &[u8]) -> Result<
     ensures sheet { IfOk result (λ h. text.now ≡ sheet_text G.CODE (view store.new).nodes h.number) }
     ensures kept { Kept G.table C.recalls store.new }
 {
-    let mut room = [BLANK; LINES];
+    let mut room = [BLANK; ROOM];
     let mut lines = Filled::new(&mut room);
     let checked = check(text, store.plan().pieces(), G::own_code(), &mut lines)?;
-    let mut places = [0; LINES];
+    let mut places = [0; ROOM];
     let mut numbers = Filled::new(&mut places);
     enter(store, lines.items(), &mut numbers)?;
     Ok(Handle {

@@ -5,12 +5,11 @@ ghost use Rattle.deposits.specs.Writing.{Writes};
 use caches::Cache;
 use lists::{Filled, NodeLine};
 use orders::{Chain, Refusal};
-use sheets::{list_lines, write_sheet};
+use sheets::{Nodes, list_lines, write_sheet};
 use store::{Handle, Store};
+use tables::ROOM;
 
-// Room for the lines of a set, and what stands there at first.
-pub const LINES: usize = 2046;
-
+// What stands at first where the lines of a set go.
 pub const BLANK: NodeLine = NodeLine {
     x: 0,
     y: 0,
@@ -27,8 +26,11 @@ pub fn write<G: Chain, C: Cache>(
     ensures { Writes G.CODE (view store.now) set page.old page.new result }
 {
     let orders = store.count(set)?;
-    let mut room = [BLANK; LINES];
+    let mut room = [BLANK; ROOM];
     let mut lines = Filled::new(&mut room);
-    list_lines(store.nodes(), set.number, &mut lines);
+    let nodes = Nodes {
+        rows: store.nodes(),
+    };
+    list_lines(nodes, set.number, &mut lines);
     write_sheet(page, G::own_code(), orders, lines.items())
 }

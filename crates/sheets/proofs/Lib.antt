@@ -2,6 +2,7 @@ pub mod Fronts
 pub mod Tops
 pub mod Keeps
 pub mod Entries
+pub mod Rules
 pub mod Steps
 pub mod Endings
 pub mod Listings

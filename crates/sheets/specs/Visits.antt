@@ -1,7 +1,7 @@
 -- What a visit leaves. Assumes nothing.
 use Rattle.std.specs.Prelude.{take}
 use Rattle.forms.specs.Marks.{Marks}
-use Rattle.sheets.specs.declared.visit.Numbering.{Numbering}
+use Rattle.sheets.specs.declared.numbering.Numbering.{Numbering}
 
 -- the marks, and the numbers in the order of the visit
 abbrev pub marks_in : Numbering → Marks

@@ -7,6 +7,7 @@ ghost use Rattle.sheets.specs.declared.fault.Fault.{Fault};
 ghost use Rattle.sheets.specs.Checks.{off, root_of, counts, finish, checked, Outcome};
 
 use super::fault::Fault;
+use super::nodes::Nodes;
 use super::rows::read_rows;
 use super::top::read_top;
 use super::visit::numbered;
@@ -63,7 +64,12 @@ fn finish(rest: &[u8], table: &Table, orders: u64) -> Result<Checked, Fault>
     if rest.len() != 0 {
         return Err(Fault::bad_line(count as u64 + 4));
     }
-    let visit = numbered(table.nodes(), count as u32 + 1);
+    let visit = numbered(
+        Nodes {
+            rows: table.nodes(),
+        },
+        count as u32 + 1,
+    );
     let off = first_off(&visit.marks, count);
     if off < count {
         return Err(Fault::misnumbered(off as u64 + 4));

@@ -4,6 +4,8 @@
 mod checking;
 mod fault;
 mod listing;
+mod nodes;
+mod numbering;
 mod rows;
 mod texts;
 mod theorems;
@@ -13,8 +15,10 @@ mod writing;
 
 pub use checking::{Checked, check};
 pub use fault::{Fault, Part};
-pub use listing::list_lines;
+pub use listing::{list_lines, number_of};
+pub use nodes::Nodes;
+pub use numbering::Numbering;
 pub use texts::line_values;
 pub use theorems::{accepted_stands, written_stands};
-pub use visit::{Numbering, numbered};
+pub use visit::numbered;
 pub use writing::write_sheet;

@@ -17,14 +17,15 @@ returns-in_err-orders g c =
     subst (Writes g.G.Chain.CODE w c.args.set page page) (sym (refusal_is e c.from_residual.result c.from_residual.ensures.1))
     (writes_no g.G.Chain.CODE w c.args.set page e (asked_no _ _ e c.in_err-orders.ensures.reply))
 
+pub invariant_of-nodes : goal.invariant_of-nodes
+invariant_of-nodes g c = record { sound = ∣ c.nodes.ensures.sound ∣₁; few = c.nodes.ensures.few }
+
 pub list_lines-requires : goal.list_lines-requires
 list_lines-requires g c =
     let w = view c.args.store.now in
     let yes = accepted _ _ _ c.in_ok-orders.ensures.reply in
     record {
-      table = c.nodes.ensures.sound;
       within = subst (λ N. Exists N c.args.set.number) (sym c.nodes.ensures.is) (handle_there w c.args.set yes.0).1;
-      few = c.nodes.ensures.few;
       room = omega (arith, ap length c.new-lines.ensures.room);
     }
 

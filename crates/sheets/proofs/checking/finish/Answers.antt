@@ -13,12 +13,14 @@ returns-then-rest-ne0 c =
     ap Err (c.bad_line.ensures ∙ ap (λ n. bad_line (n + 4)) c.len-count.ensures.is)
     ∙ sym (finish_surplus (rows c.args.table.now) c.args.orders c.args.rest.now c.if-rest-ne0.true)
 
-pub numbered-visit-requires : goal.numbered-visit-requires
-numbered-visit-requires c = record {
-  table = subst Sound (sym c.nodes.ensures) (sound_of c.args.table.now);
-  within = omega (arith, ap length c.nodes.ensures, c.len-count.ensures.is);
-  room = omega (arith, ap length c.nodes.ensures, c.len-count.ensures.is, c.len-count.ensures.within);
+pub invariant_of-numbered : goal.invariant_of-numbered
+invariant_of-numbered c = record {
+  sound = ∣ subst Sound (sym c.nodes.ensures) (sound_of c.args.table.now) ∣₁;
+  few = omega (arith, ap length c.nodes.ensures, c.len-count.ensures.is, c.len-count.ensures.within);
 }
+
+pub numbered-visit-requires : goal.numbered-visit-requires
+numbered-visit-requires c = omega (arith, ap length c.nodes.ensures, c.len-count.ensures.is)
 
 pub returns-then-off-count : goal.returns-then-off-count
 returns-then-off-count c =

@@ -1,5 +1,5 @@
 use Rattle.sheets.proofs.Listings.{Listing}
 use Rattle.sheets.proofs.listing.list_lines.Given as goal
 
-abbrev pub invariant-loop-k : goal.invariant-loop-k
-invariant-loop-k l = Listing l.nodes l.visit l.initial.lines l.lines l.k
+abbrev pub invariant-loop-n : goal.invariant-loop-n
+invariant-loop-n l = Listing l.nodes.rows.now l.marks l.n-items l.initial.lines l.lines l.n-index

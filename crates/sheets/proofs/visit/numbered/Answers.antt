@@ -1,14 +1,13 @@
-use Rattle.std.proofs.Common.{suc, sym, subst, arith}
-use Rattle.forms.specs.Marks.{Marked}
+use Rattle.std.proofs.Common.{suc, sym, ap, ◌∙◌, subst, arith}
+use Rattle.forms.specs.Marks.{Marks, Marked, mark}
 use Rattle.forms.proofs.Tracks.{marks_stand}
+use Rattle.sheets.proofs.Rules.{sound_in}
 use Rattle.sheets.proofs.visit.numbered.Goals as goal
 
-pub returns : goal.returns
-returns c =
-    let N = c.args.nodes.now in
+pub returns-clause-visit : goal.returns-clause-visit
+returns-clause-visit c =
+    let N = c.args.nodes.rows.now in
     let root = c.args.root in
-    record {
-      is = λ d h. sym (c.visit-count.ensures.is d h);
-      visit = subst (Marked N root) (c.visit-count.ensures.is (suc root) (omega arith)) (marks_stand N c.requires.table root c.requires.within 2046 c.requires.room (suc root) (omega arith));
-      within = (c.visit-count.ensures.long, c.visit-count.ensures.same, omega (arith, c.visit-count.ensures.left, c.visit-count.ensures.long));
-    }
+    subst (Marked N root)
+    (ap (λ (s : Marks). mark (suc root) N root s) (sym c.none-numbering.ensures) ∙ c.visit.ensures.is (suc root) (omega arith))
+    (marks_stand N (sound_in c.args.nodes) root c.requires 2046 c.args.nodes.few (suc root) (omega arith))

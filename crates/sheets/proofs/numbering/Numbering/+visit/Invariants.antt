@@ -1,4 +1,4 @@
-use Rattle.sheets.proofs.visit.+visit.Given as goal
+use Rattle.sheets.proofs.numbering.Numbering.+visit.Given as goal
 
 abbrev pub decreases-visit : goal.decreases-visit
 decreases-visit l = l.n
