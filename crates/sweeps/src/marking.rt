@@ -14,6 +14,7 @@ fn roots(pegs: [Option<u32>; PEGS]) -> [bool; NUMBERS]
     ensures roots { (n : ℕ) → (slice_index_or result n false ≡ true) ↔ Pegged pegs n }
 {
     let mut marks = [false; NUMBERS];
+    // Not `pegs.iter().flatten()`: tried, and no proof that what it gives was on a peg.
     for peg in pegs {
         if let Some(number) = peg {
             marks[number as usize] = true;
