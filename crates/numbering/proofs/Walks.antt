@@ -17,8 +17,8 @@ use Rattle.diagrams.proofs.Counts.{list_node, counted}
 use Rattle.tables.specs.Rows.{rows}
 use Rattle.tables.proofs.Rows.{sound_of}
 use Rattle.numbering.specs.declared.set.Set.{Set}
-use Rattle.numbering.specs.declared.set.Branch.{Branch}
-use Rattle.numbering.specs.Parts.{Parts}
+use Rattle.numbering.specs.declared.set.Split.{Split}
+use Rattle.numbering.specs.Splitting.{Splits}
 use Rattle.numbering.specs.Numbered.{item, place_by, place_in, order_at, place_of, Fetched, Placed}
 use Rattle.numbering.proofs.Lists.{item_low, item_high, item_map, item_none}
 use Rattle.numbering.proofs.Ranks.{below, listed, placed, fetches, places, placed_by, no_place}
@@ -186,7 +186,7 @@ module _ (g : Moves) (laws : ChainLaws g) (s : Set) where
   place_standing o b one d = find o (then_some b 0) (rw one (place_one g laws Nodes sound o b d))
 
   -- by the parts of a node's set
-  module _ (b : Branch) (h : 2 ≤ number) (p : Parts s b) where
+  module _ (b : Split) (h : 2 ≤ number) (p : Splits s b) where
     abbrev Low : List Node
     Low = rows b.low.table.now
 

@@ -1,5 +1,5 @@
 pub mod Before
 pub mod Numbered
-pub mod Parts
+pub mod Splitting
 pub mod Theorems
 pub mod Examples

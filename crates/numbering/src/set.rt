@@ -18,7 +18,7 @@ pub struct Set<'a> {
 }
 
 // What a node says of its set: its move, and the sets of its two parts.
-struct Branch<'a> {
+struct Split<'a> {
     x: u8,
     y: u8,
     low: Set<'a>,
@@ -26,7 +26,7 @@ struct Branch<'a> {
 }
 
 impl<'a> Set<'a> {
-    ghost use Rattle.numbering.specs.Parts.{Parts};
+    ghost use Rattle.numbering.specs.Splitting.{Splits};
 
     // How many orders the set has, by whatever chain.
     pub fn count(self) -> u64
@@ -37,12 +37,12 @@ impl<'a> Set<'a> {
     }
 
     // The move and the parts of a set that is neither empty nor that of the standing order alone.
-    fn branch(self) -> Branch<'a>
+    fn split(self) -> Split<'a>
         requires { 2 ≤ self.number }
-        ensures { Parts self.entry result }
+        ensures { Splits self.entry result }
     {
         let row = self.table.get(self.number);
-        Branch {
+        Split {
             x: row.x,
             y: row.y,
             low: Set {
@@ -67,7 +67,7 @@ impl<'a> Set<'a> {
         if self.number == 1 {
             return Some(Order::standing());
         }
-        let Branch { x, y, low, high } = self.branch();
+        let Split { x, y, low, high } = self.split();
         let before = low.count();
         if k < before {
             return low.order_at::<G>(k);
@@ -87,7 +87,7 @@ impl<'a> Set<'a> {
         if self.number == 1 {
             return (order == Order::standing()).then_some(0);
         }
-        let Branch { x, y, low, high } = self.branch();
+        let Split { x, y, low, high } = self.split();
         if order.place(x) != y {
             return low.place_of::<G>(order);
         }

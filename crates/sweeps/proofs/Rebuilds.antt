@@ -1,16 +1,15 @@
 -- Nodes made again by the rule `node`, and the pegs with new numbers. Assumes nothing.
-use Rattle.std.proofs.Common.{◌≡◌, ℕ, zero, suc, ◌+◌, ◌-◌, ◌<◌, ◌≤◌, Bool, true, false, ◌≢◌, List, [], ◌∷◌, map, length, get_or, set, replicate, Some, None, Ok, Err, Option, Result, sym, refl, ap, ◌∙◌, subst, inl, inr, arith, length-set, get_or-set_other, get_or-set_same}
+use Rattle.std.proofs.Common.{◌≡◌, ℕ, zero, suc, ◌+◌, ◌<◌, ◌≤◌, Bool, true, false, List, [], ◌∷◌, map, length, get_or, set, replicate, Some, None, Ok, Err, Option, Result, sym, refl, ap, ◌∙◌, subst, inl, inr, arith, length-set, get_or-set_other, get_or-set_same}
 use mathlib.Core.Bool.{false≢true}
 use native.Mathlib.Decide.{ℕ_discrete, dec_lt}
 use Rattle.orders.specs.declared.refusal.Refusal.{Refusal}
 use Rattle.diagrams.specs.declared.Node.{Node}
 use Rattle.diagrams.specs.Table.{at, blank, Exists, Sound}
-use Rattle.diagrams.specs.Bodies.{row}
 use Rattle.diagrams.specs.Rules.{Outcome, done, is_node, find, node, new_node, Asks}
 use Rattle.diagrams.proofs.Nodes.{node_new}
 use Rattle.diagrams.proofs.Pushes.{pushed, first_here, is_node_same}
 use Rattle.tables.specs.Rows.{Makes}
-use Rattle.tables.proofs.Rows.{row_rest}
+use Rattle.std.specs.Result.{is_ok}
 use Rattle.sweeps.specs.Reaching.{empty, Pegs, held, reached}
 use Rattle.sweeps.specs.Sweeping.{on_peg, renumber, again, kept_of, swept, renumbered, pegs_after}
 use Rattle.sweeps.specs.Marks.{test, Kept, Closed, Remaking}
@@ -46,12 +45,9 @@ module _ (N : List Node) (keep : ℕ → Bool) where
         at n l k (no e) = R.numbered n (omega arith) k
 
     module _ (S : Sound N) (closed : Closed keep N) (l : i < length N) (few : length N ≤ 2046) (t : keep (i + 2) ≡ true)
-        (p : Node) (lo hi : ℕ) (read : p ≡ row N (i + 2)) (low : lo ≡ get_or numbers p.lo 0) (high : hi ≡ get_or numbers p.hi 0) where
+        (p : Node) (lo hi : ℕ) (is : p ≡ at N i) (low : lo ≡ get_or numbers p.lo 0) (high : hi ≡ get_or numbers p.hi 0) where
       kept : keep (suc (suc i)) ≡ true
       kept = let z : i + 2 ≡ suc (suc i) = omega arith in rw z at t
-
-      is : p ≡ at N i
-      is = let z : i + 2 - 2 ≡ i = omega arith in read ∙ row_rest N (i + 2) (omega arith) ∙ ap (at N) z
 
       low_is : lo ≡ renumber keep (at N i).lo
       low_is = let k = S.ok i l in low ∙ ap (λ (a : Node). get_or numbers a.lo 0) is ∙ R.numbered (at N i).lo k.lo_below (closed i l kept).0
@@ -107,23 +103,38 @@ module _ (N : List Node) (keep : ℕ → Bool) where
           at w n q k (no e) = rw get_or-set_other (R.numbered n (omega arith) k)
 
       -- there is room
-      pub remaking_room : (M' : List Node) (f : Refusal) → ((n : ℕ) → Makes (node 2046 M p.x p.y lo hi n) M' n (Err f)) → ⊥
-      remaking_room M' f h = makes M' (Err f) h
+      pub remaking_room : (M' : List Node) (r : Result ℕ Refusal) → ((n : ℕ) → Makes (node 2046 M p.x p.y lo hi n) M' n r) → is_ok r ≡ true
+      remaking_room M' (Ok new) h = refl
+      remaking_room M' (Err f) h = absurd (makes M' (Err f) h)
 
--- the pegs, one by one
-pub peg_written : (after : List (Option ℕ)) (p : ℕ) (r due : Option ℕ) → p < length after → r ≡ due → get_or (set after p r) p empty ≡ due
-peg_written after p r due h e = get_or-set_same after p r empty h ∙ e
+-- the first p pegs are moved by f, and those after them are as they were
+pub record Moved (f : Option ℕ → Option ℕ) (pegs after : List (Option ℕ)) (p : ℕ) : Type 0 where
+  pub long : length after ≡ length pegs
+  pub done : (q : ℕ) → q < p → get_or after q empty ≡ f (get_or pegs q empty)
+  pub left : (q : ℕ) → p ≤ q → get_or after q empty ≡ get_or pegs q empty
 
-pub peg_stays : (after : List (Option ℕ)) (p q : ℕ) (r due : Option ℕ) → q ≢ p → get_or after q empty ≡ due → get_or (set after p r) q empty ≡ due
-peg_stays after p q r due ne e = get_or-set_other after p q r empty ne ∙ e
-
-pub pegs_tell : (f : Option ℕ → Option ℕ) (pegs after : List (Option ℕ)) → length after ≡ length pegs → ((p : ℕ) → p < length pegs → get_or after p empty ≡ f (get_or pegs p empty)) → after ≡ map f pegs
+pegs_tell : (f : Option ℕ → Option ℕ) (pegs after : List (Option ℕ)) → length after ≡ length pegs → ((p : ℕ) → p < length pegs → get_or after p empty ≡ f (get_or pegs p empty)) → after ≡ map f pegs
 pegs_tell f [] [] e h = refl
 pegs_tell f [] (b ∷ after) e h = absurd (omega arith)
 pegs_tell f (a ∷ pegs) [] e h = absurd (omega arith)
 pegs_tell f (a ∷ pegs) (b ∷ after) e h =
     let one : b ≡ f a = h 0 (omega arith) in
     rw (one, pegs_tell f pegs after (omega arith) (λ p l. h (suc p) (omega arith)))
+
+module _ (f : Option ℕ → Option ℕ) (pegs after : List (Option ℕ)) (p : ℕ) (M : Moved f pegs after p) where
+  pub moved_more : (r : Option ℕ) → p < length pegs → r ≡ f (get_or after p empty) → Moved f pegs (set after p r) (p + 1)
+  moved_more r l e = record {
+    long = rw length-set M.long;
+    done = λ q h. at q h (ℕ_discrete q p);
+    left = λ q h. get_or-set_other after p q r empty (omega arith) ∙ M.left q (omega arith);
+  }
+    where
+      at : (q : ℕ) → q < p + 1 → Dec (q ≡ p) → get_or (set after p r) q empty ≡ f (get_or pegs q empty)
+      at q h (yes s) = rw s (get_or-set_same after p r empty (omega (arith, M.long)) ∙ e ∙ ap f (M.left p (omega arith)))
+      at q h (no s) = get_or-set_other after p q r empty s ∙ M.done q (omega arith)
+
+  pub moved_end : length pegs ≤ p → after ≡ map f pegs
+  moved_end h = pegs_tell f pegs after M.long (λ q l. M.done q (omega arith))
 
 pub pegs_same : (f h : ℕ → ℕ) (pegs : List (Option ℕ)) → ((p n : ℕ) → get_or pegs p empty ≡ Some n → f n ≡ h n) → map (on_peg f) pegs ≡ map (on_peg h) pegs
 pegs_same f h [] s = refl

@@ -1,14 +1,15 @@
 -- Marks that are spread from the pegs down, and what they tell in the end. Assumes nothing.
-use Rattle.std.proofs.Common.{◌≡◌, ℕ, zero, suc, ◌+◌, ◌-◌, ◌<◌, ◌≤◌, Bool, true, false, cond, ◌≢◌, ◌⊎◌, ◌↔◌, List, [], ◌∷◌, length, get_or, set, replicate, Some, None, Option, sym, refl, ap, ◌∙◌, subst, inl, inr, arith, length-set, get_or-set_other, get_or-set_same}
+use Rattle.std.proofs.Common.{◌≡◌, ℕ, zero, suc, ◌+◌, ◌<◌, ◌≤◌, Bool, true, false, ◌≢◌, ◌⊎◌, ◌↔◌, List, [], ◌∷◌, ◌++◌, length, get_or, set, replicate, Some, None, Option, sym, refl, ap, ◌∙◌, subst, inl, inr, arith, add-one, append_assoc, length-append, length-set, get_or-set_other, get_or-set_same}
+use Rattle.std.proofs.Math.ListN.{get_or-append}
+use Rattle.std.proofs.lemmas.List.{length_push, get_or_push}
+use Rattle.std.specs.List.{push}
 use mathlib.Core.Bool.{false≢true}
 use native.Mathlib.Decide.{ℕ_discrete}
 use Rattle.diagrams.specs.declared.Node.{Node}
-use Rattle.diagrams.specs.Table.{at, Exists, Sound, lo_of, hi_of}
-use Rattle.diagrams.specs.Bodies.{row}
+use Rattle.diagrams.specs.Table.{at, blank, Exists, Sound, lo_of, hi_of}
 use Rattle.diagrams.proofs.Bools.{both_ways}
-use Rattle.diagrams.proofs.Numbers.{parts}
 use Rattle.sweeps.specs.Reaching.{empty, Pegged, Pegs, Reached, held, low, high, reached}
-use Rattle.sweeps.specs.Marks.{test, marked_peg, marked_parts}
+use Rattle.sweeps.specs.Marks.{test}
 use Rattle.sweeps.proofs.Leads.{reached_there, reached_found, found_is_reached}
 
 -- one more mark
@@ -55,20 +56,24 @@ rooted_none pegs = record {
 }
 
 module _ (pegs : List (Option ℕ)) (p : ℕ) (marks : List Bool) (R : Rooted pegs p marks) where
-  root_mark : (peg : Option ℕ) → get_or pegs p empty ≡ peg → ((n : ℕ) → peg ≡ Some n → n < 2048) → Rooted pegs (p + 1) (marked_peg marks peg)
-  root_mark None e f = record { long = R.long; real = R.real; all = λ q n l w. at q n l w (ℕ_discrete q p) }
+  -- there is nothing on the peg
+  pub rooted_skip : get_or pegs p empty ≡ None → Rooted pegs (p + 1) marks
+  rooted_skip e = record { long = R.long; real = R.real; all = λ q n l w. at q n l w (ℕ_discrete q p) }
     where
       at : (q n : ℕ) → q < p + 1 → get_or pegs q empty ≡ Some n → Dec (q ≡ p) → test marks n ≡ true
       at q n l w (yes s) = absurd (some_none n (get_or pegs q empty) (ap (λ (k : ℕ). get_or pegs k empty) s ∙ e) w)
       at q n l w (no s) = R.all q n (omega arith) w
-  root_mark (Some m) e f = record {
+
+  -- the number on the peg is marked
+  pub rooted_more : (m : ℕ) → get_or pegs p empty ≡ Some m → m < 2048 → Rooted pegs (p + 1) (set marks m true)
+  rooted_more m e f = record {
     long = rw length-set R.long;
     real = λ n t. from n (mark_from marks m fits n t);
     all = λ q n l w. at q n l w (ℕ_discrete q p);
   }
     where
       fits : m < length marks
-      fits = omega (arith, f m refl, R.long)
+      fits = omega (arith, R.long)
 
       from : (n : ℕ) → (n ≡ m) ⊎ (test marks n ≡ true) → Pegged pegs n
       from n (inl q) = (p, e ∙ ap (λ (k : ℕ). Some k) (sym q))
@@ -81,9 +86,6 @@ module _ (pegs : List (Option ℕ)) (p : ℕ) (marks : List Bool) (R : Rooted pe
           rw y (mark_here marks m fits)
       at q n l w (no s) = mark_keeps marks m fits n (R.all q n (omega arith) w)
 
-  pub rooted_more : (peg : Option ℕ) (after : List Bool) → get_or pegs p empty ≡ peg → ((n : ℕ) → peg ≡ Some n → n < 2048) → after ≡ marked_peg marks peg → Rooted pegs (p + 1) after
-  rooted_more peg after e f is = subst (Rooted pegs (p + 1)) (sym is) (root_mark peg e f)
-
   past : (l : List (Option ℕ)) (q n : ℕ) → get_or l q empty ≡ Some n → q < length l
   past [] q n e = absurd (some_none n empty refl e)
   past (a ∷ l) zero n e = omega arith
@@ -92,15 +94,25 @@ module _ (pegs : List (Option ℕ)) (p : ℕ) (marks : List Bool) (R : Rooted pe
   pub rooted_end : length pegs ≤ p → (n : ℕ) → (test marks n ≡ true) ↔ Pegged pegs n
   rooted_end h n = (R.real n, λ r. R.all r.0 n (omega (arith, past pegs r.0 n r.1)) r.1)
 
--- the parts of a node, by its row: their numbers fit, and the marks on them are what is to be marked
-module _ (N : List Node) (n : ℕ) (p : Node) (is : p ≡ row N n) where
-  pub parts_fit : Sound N → length N ≤ 2046 → Exists N n → 2 ≤ n → (p.lo < 2048) × (p.hi < 2048)
-  parts_fit S few e h =
-      let k = parts N S n e h in
-      (omega (arith, k.lo_below, ap (λ (a : Node). a.lo) is), omega (arith, k.hi_below, ap (λ (a : Node). a.hi) is))
+-- the parts of the node at i fit, where marks and numbers stand
+pub parts_fit : (N : List Node) (i : ℕ) (a : Node) → Sound N → length N ≤ 2046 → i < length N → a ≡ at N i → (a.lo < 2048) × (a.hi < 2048)
+parts_fit N i a S few l is = let k = S.ok i l in (omega (arith, ap (λ (a : Node). a.lo) is), omega (arith, ap (λ (a : Node). a.hi) is))
 
-  pub parts_marked : (marks : List Bool) → test marks n ≡ true → set (set marks p.lo true) p.hi true ≡ marked_parts N marks n
-  parts_marked marks t = rw (t, is) refl
+-- the last of the first nodes of a list
+module _ (N left rest : List Node) (a : Node) (tail : List Node) (whole : N ≡ left ++ tail) (split : left ≡ push rest a) where
+  pub one_less : length left ≡ suc (length rest)
+  one_less = ap length split ∙ length_push rest a ∙ add-one (length rest)
+
+  pub last_there : length rest < length N
+  last_there = omega (arith, one_less, ap length whole ∙ length-append left tail)
+
+  pub last_is : a ≡ at N (length rest)
+  last_is =
+      let h : length rest < length left = omega (arith, one_less) in
+      sym (ap (λ l. at l (length rest)) whole ∙ get_or-append left tail blank (length rest) h ∙ ap (λ l. at l (length rest)) split ∙ get_or_push rest a blank (length rest) refl)
+
+  pub rest_whole : N ≡ rest ++ (a ∷ tail)
+  rest_whole = whole ∙ ap (λ l. l ++ tail) split ∙ append_assoc rest (a ∷ []) tail
 
 -- the nodes from i on are done: of each that is marked the parts are marked
 pub record Marking (N : List Node) (pegs : List (Option ℕ)) (i : ℕ) (marks : List Bool) : Type 0 where
@@ -175,20 +187,18 @@ module _ (N : List Node) (pegs : List (Option ℕ)) where
           both j q w v (yes e) = absurd (false≢true (sym t ∙ ap (λ (k : ℕ). test marks (suc (suc k))) (sym e) ∙ v))
           both j q w v (no e) = M.closed j (omega arith) w v
 
-      spread : Marking N pegs i (marked_parts N marks (suc (suc i)))
-      unfolding lo_of hi_of
-      spread = by (test marks (suc (suc i))) refl
-        where
-          by : (b : Bool) → test marks (suc (suc i)) ≡ b → Marking N pegs i (cond b twice marks)
-          by true t = spread_yes t
-          by false t = spread_no t
+    -- the last node that is left, as the walk from the last node down meets it
+    module _ (left rest : List Node) (a : Node) (tail : List Node) (whole : N ≡ left ++ tail) (split : left ≡ push rest a) (marks : List Bool) (M : Marking N pegs (length left) marks) where
+      pub spread_marked : test marks (length rest + 2) ≡ true → Marking N pegs (length rest) (set (set marks a.lo true) a.hi true)
+      spread_marked t =
+          let z : length rest + 2 ≡ suc (suc (length rest)) = omega arith in
+          rw (last_is N left rest a tail whole split)
+          (spread_yes (length rest) (last_there N left rest a tail whole split) marks (subst (λ i. Marking N pegs i marks) (one_less N left rest a tail whole split) M) (rw z at t))
 
-    pub marking_down : (i : ℕ) (marks after : List Bool) → 0 < i → i ≤ length N → Marking N pegs i marks → after ≡ marked_parts N marks (i - 1 + 2) → Marking N pegs (i - 1) after
-    marking_down zero marks after h l M is = absurd (omega arith)
-    marking_down (suc i) marks after h l M is =
-        let one : suc i - 1 ≡ i = omega arith in
-        let two : i + 2 ≡ suc (suc i) = omega arith in
-        rw one (subst (Marking N pegs i) (sym (is ∙ (rw (one, two) refl))) (spread i l marks M))
+      pub spread_unmarked : test marks (length rest + 2) ≡ false → Marking N pegs (length rest) marks
+      spread_unmarked t =
+          let z : length rest + 2 ≡ suc (suc (length rest)) = omega arith in
+          spread_no (length rest) (last_there N left rest a tail whole split) marks (subst (λ i. Marking N pegs i marks) (one_less N left rest a tail whole split) M) (rw z at t)
 
     module _ (P : Pegs N pegs) (marks : List Bool) (M : Marking N pegs 0 marks) where
       part_marked : (n : ℕ) → Exists N n → 2 ≤ n → test marks n ≡ true → (test marks (lo_of N n) ≡ true) × (test marks (hi_of N n) ≡ true)

@@ -1,21 +1,12 @@
 -- Marks on the numbers of a table, as the sweep sets and reads them. Assumes nothing.
-use Rattle.std.specs.Prelude.{◌≡◌, ℕ, suc, ◌<◌, Bool, true, false, cond, ◌⊎◌, List, length, Some, None, Option, slice_index, slice_index_or, slice_set}
+use Rattle.std.specs.Prelude.{◌≡◌, ℕ, suc, ◌<◌, Bool, true, false, ◌⊎◌, List, length, slice_index, slice_index_or}
 use Rattle.diagrams.specs.declared.Node.{Node}
-use Rattle.diagrams.specs.Table.{at, lo_of, hi_of}
+use Rattle.diagrams.specs.Table.{at}
 use Rattle.sweeps.specs.Sweeping.{renumber, kept_of}
 
 -- the test that marks make: a number is marked
 abbrev pub test : List Bool → ℕ → Bool
 test marks n = slice_index_or marks n false
-
--- the marks with the number on a peg marked too
-abbrev pub marked_peg : List Bool → Option ℕ → List Bool
-marked_peg marks None = marks
-marked_peg marks (Some n) = slice_set marks n true
-
--- the marks with the parts of the node n marked too, if n is marked
-abbrev pub marked_parts : List Node → List Bool → ℕ → List Bool
-marked_parts N marks n = cond (test marks n) (slice_set (slice_set marks (lo_of N n) true) (hi_of N n) true) marks
 
 module _ (keep : ℕ → Bool) where
   -- n is 0 or 1, or is kept

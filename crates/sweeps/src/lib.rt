@@ -17,9 +17,10 @@ use remaking::{Remade, made_again, moved};
 pub use theorems::{examples_stand, sweep_stands};
 
 // How many pegs a store has.
-const PEGS: usize = 64;
+pub const PEGS: usize = 64;
 
-// How many numbers a table can have: 0, 1 and those of its nodes.
+// How many numbers a table can have: 0, 1 and those of its nodes. Marks and new numbers stand in two arrays of this length, since all marks are
+// set before the first new number is known.
 const NUMBERS: usize = 2048;
 
 // What a sweep leaves: the table, and the pegs with the new numbers of their sets.
@@ -36,12 +37,9 @@ pub fn sweep(table: &Table, pegs: [Option<u32>; PEGS]) -> Swept
     ensures held { result.pegs ≡ pegs_after (rows table.now) pegs }
 {
     let marks = marked(table, pegs);
-    let Remade {
-        table: fresh,
-        numbers,
-    } = made_again(table, &marks);
+    let Remade { table, numbers } = made_again(table, &marks);
     Swept {
-        table: fresh,
+        table,
         pegs: moved(pegs, &numbers),
     }
 }

@@ -25,36 +25,36 @@ returns-then-self-eq1 g t c =
     c.if-self-eq1.true (omega (arith, c.count.ensures.is, c.if-k-count.false)) c.standing.ensures in
     record { is = q.0; fetched = q.1 }
 
-pub branch-x-requires : goal.branch-x-requires
-branch-x-requires = node
+pub split-x-requires : goal.split-x-requires
+split-x-requires = node
 
 pub order_at-requires : goal.order_at-requires
 order_at-requires g t c κs within =
     let n = node g t (goal.at.order_at-requires g t c).Else-self-eq1 in
-    (omega (arith, c.decreases, parts_below g.G.Chain.table g.met.G.Chain.laws c.args.self c.branch-x.result n c.branch-x.ensures), within)
+    (omega (arith, c.decreases, parts_below g.G.Chain.table g.met.G.Chain.laws c.args.self c.split-x.result n c.split-x.ensures), within)
 
 pub returns-then-k-before : goal.returns-then-k-before
 returns-then-k-before g t c =
     let n = node g t (goal.at.returns-then-k-before g t c).Else-self-eq1 in
-    let q = fetch_low g.G.Chain.table g.met.G.Chain.laws c.args.self c.branch-x.result n c.branch-x.ensures
+    let q = fetch_low g.G.Chain.table g.met.G.Chain.laws c.args.self c.split-x.result n c.split-x.ensures
     c.args.k c.order_at.result (omega (arith, c.count-before.ensures.is, c.if-k-before.true)) c.order_at.ensures.is in
     record { is = q.0; fetched = q.1 }
 
 pub order_at-requires-2 : goal.order_at-requires-2
 order_at-requires-2 g t c κs within =
     let n = node g t (goal.at.order_at-requires-2 g t c).Else-self-eq1 in
-    (omega (arith, c.decreases, parts_below g.G.Chain.table g.met.G.Chain.laws c.args.self c.branch-x.result n c.branch-x.ensures), within)
+    (omega (arith, c.decreases, parts_below g.G.Chain.table g.met.G.Chain.laws c.args.self c.split-x.result n c.split-x.ensures), within)
 
 pub returns-in_err-order : goal.returns-in_err-order
 returns-in_err-order g t c =
     let r = (goal.at.returns-in_err-order g t c).Else-self-eq1 in
-    absurd (fetch_some g.G.Chain.table g.met.G.Chain.laws c.args.self c.branch-x.result (node g t r) c.branch-x.ensures
+    absurd (fetch_some g.G.Chain.table g.met.G.Chain.laws c.args.self c.split-x.result (node g t r) c.split-x.ensures
     c.args.k c.count-before.result (below g t r) c.count-before.ensures.is c.if-k-before.false c.in_err-order.ensures.fetched)
 
 pub returns : goal.returns
 returns g t c =
     let n = node g t (goal.at.returns g t c).Else-self-eq1 in
-    let q = fetch_high g.G.Chain.table g.met.G.Chain.laws c.args.self c.branch-x.result n c.branch-x.ensures
+    let q = fetch_high g.G.Chain.table g.met.G.Chain.laws c.args.self c.split-x.result n c.split-x.ensures
     c.args.k c.count-before.result c.in_ok-order.order c.step.result c.then.result c.count-before.ensures.is c.if-k-before.false c.in_ok-order.ensures.is
     c.step.ensures c.then.ensures in
     record { is = q.0; fetched = q.1 }

@@ -23,38 +23,38 @@ returns-then-self-eq1 g t c =
 pub place_of-requires : goal.place_of-requires
 place_of-requires g t c κs within =
     let n = node g t (goal.at.place_of-requires g t c).Else-self-eq1 in
-    (omega (arith, c.decreases, parts_below g.G.Chain.table g.met.G.Chain.laws c.args.self c.branch-x.result n c.branch-x.ensures), within)
+    (omega (arith, c.decreases, parts_below g.G.Chain.table g.met.G.Chain.laws c.args.self c.split-x.result n c.split-x.ensures), within)
 
 pub returns-then-place-y : goal.returns-then-place-y
 returns-then-place-y g t c =
     let n = node g t (goal.at.returns-then-place-y g t c).Else-self-eq1 in
-    let q = place_low g.G.Chain.table g.met.G.Chain.laws c.args.self c.branch-x.result n c.branch-x.ensures
+    let q = place_low g.G.Chain.table g.met.G.Chain.laws c.args.self c.split-x.result n c.split-x.ensures
     c.args.order c.place_of.result c.place.result c.place.ensures c.if-place-y.true c.place_of.ensures.is in
     record { is = q.0; placed = q.1 }
 
 pub place_of-requires-2 : goal.place_of-requires-2
 place_of-requires-2 g t c κs within =
     let n = node g t (goal.at.place_of-requires-2 g t c).Else-self-eq1 in
-    (omega (arith, c.decreases, parts_below g.G.Chain.table g.met.G.Chain.laws c.args.self c.branch-x.result n c.branch-x.ensures), within)
+    (omega (arith, c.decreases, parts_below g.G.Chain.table g.met.G.Chain.laws c.args.self c.split-x.result n c.split-x.ensures), within)
 
 pub returns-in_err-k : goal.returns-in_err-k
 returns-in_err-k g t c =
     let n = node g t (goal.at.returns-in_err-k g t c).Else-self-eq1 in
-    let q = place_gone g.G.Chain.table g.met.G.Chain.laws c.args.self c.branch-x.result n c.branch-x.ensures
+    let q = place_gone g.G.Chain.table g.met.G.Chain.laws c.args.self c.split-x.result n c.split-x.ensures
     c.args.order c.step.result c.inverse.result c.then.result c.place.result c.place.ensures c.if-place-y.false c.step.ensures c.inverse.ensures c.then.ensures c.in_err-k.ensures.is in
     record { is = c.from_residual.ensures ∙ q.0; placed = rw c.from_residual.ensures q.1 }
 
 pub overflow_add-result : goal.overflow_add-result
 overflow_add-result g t c =
     let n = node g t (goal.at.overflow_add-result g t c).Else-self-eq1 in
-    let fits = place_fits g.G.Chain.table g.met.G.Chain.laws c.args.self c.branch-x.result n c.branch-x.ensures
+    let fits = place_fits g.G.Chain.table g.met.G.Chain.laws c.args.self c.split-x.result n c.split-x.ensures
     c.then.result c.in_ok-k.k c.count.result c.in_ok-k.ensures.placed c.count.ensures.is in
     omega arith
 
 pub returns : goal.returns
 returns g t c =
     let n = node g t (goal.at.returns g t c).Else-self-eq1 in
-    let q = place_high g.G.Chain.table g.met.G.Chain.laws c.args.self c.branch-x.result n c.branch-x.ensures
+    let q = place_high g.G.Chain.table g.met.G.Chain.laws c.args.self c.split-x.result n c.split-x.ensures
     c.args.order c.step.result c.inverse.result c.then.result c.in_ok-k.k c.count.result c.place.result c.place.ensures c.if-place-y.false
     c.step.ensures c.inverse.ensures c.then.ensures c.in_ok-k.ensures.is c.count.ensures.is in
     record { is = q.0; placed = q.1 }

@@ -3,7 +3,7 @@ use Rattle.diagrams.specs.declared.Node.{Node}
 use Rattle.tables.specs.Rows.{rows}
 use Rattle.tables.proofs.Rows.{sound_of}
 use Rattle.numbering.proofs.Walks.{parts_before}
-use Rattle.numbering.proofs.set.Set.branch.Goals as goal
+use Rattle.numbering.proofs.set.Set.split.Goals as goal
 
 pub invariant_of-result : goal.invariant_of-result
 invariant_of-result c =
