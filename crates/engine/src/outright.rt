@@ -74,7 +74,7 @@ pub fn key(task: Task) -> Triple
         Task::Join(a, b) => (Kind::Join, a, u64::from(b)),
         Task::Meet(a, b) => (Kind::Meet, a, u64::from(b)),
         Task::Without(a, b) => (Kind::Without, a, u64::from(b)),
-        Task::Carry(a, h) => (Kind::Carry, a, h.code()),
+        Task::Carry(a, h) => (Kind::Carry, a, u64::from(h)),
         Task::Follow(a, b) => (Kind::Follow, a, u64::from(b)),
         Task::Pick(a, k, p) => (Kind::Pick, a, u64::from(k) * 256 + u64::from(p)),
     };
