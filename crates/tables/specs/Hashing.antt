@@ -1,5 +1,5 @@
 -- The buckets that nodes fall into, and what an index of a list of nodes holds. Assumes nothing.
-use Rattle.std.specs.Prelude.{◌≡◌, ℕ, zero, suc, ◌+◌, ◌*◌, ◌/◌, ◌%◌, ◌^◌, ◌<◌, cond, List, length, ◌==◌, bit_or, bit_xor, slice_index}
+use Rattle.std.specs.Prelude.{◌≡◌, ℕ, zero, suc, ◌+◌, ◌*◌, ◌/◌, ◌%◌, ◌^◌, ◌<◌, cond, List, length, ◌==◌, bit_or, bit_xor, slice_index_or, Some, None, Option}
 use Rattle.diagrams.specs.declared.Node.{Node}
 use Rattle.diagrams.specs.Table.{at}
 
@@ -19,15 +19,19 @@ bucket x y lo hi = stirred (stirred ((x * 256 + y) * 4294967296) lo) hi % 4096
 abbrev pub falls : List Node → ℕ → ℕ
 falls N i = bucket (at N i).x (at N i).y (at N i).lo (at N i).hi
 
--- the number of the last node before the place k that falls into b, or 0
-unfoldable pub last : (ℕ → ℕ) → ℕ → ℕ → ℕ
-last f b zero = 0
-last f b (suc k) = cond (f k == b) (suc (suc k)) (last f b k)
+-- the number of the last node before the place k that falls into b, if there is one
+unfoldable pub last : (ℕ → ℕ) → ℕ → ℕ → Option ℕ
+last f b zero = None
+last f b (suc k) = cond (f k == b) (Some (suc (suc k))) (last f b k)
+
+-- no number
+abbrev pub none : Option ℕ
+none = None
 
 -- for each bucket its last node
-abbrev pub Heads : List ℕ → List Node → Type 0
-Heads heads N = (b : ℕ) → b < 4096 → slice_index heads b ≡ last (falls N) b (length N)
+abbrev pub Heads : List (Option ℕ) → List Node → Type 0
+Heads heads N = (b : ℕ) → b < 4096 → slice_index_or heads b none ≡ last (falls N) b (length N)
 
 -- for each node the last before it in its bucket
-abbrev pub Links : List ℕ → List Node → Type 0
-Links next N = (i : ℕ) → i < length N → slice_index next i ≡ last (falls N) (falls N i) i
+abbrev pub Links : List (Option ℕ) → List Node → Type 0
+Links next N = (i : ℕ) → i < length N → slice_index_or next i none ≡ last (falls N) (falls N i) i

@@ -17,13 +17,14 @@ pub const ROOM: usize = 2046;
 const BUCKETS: usize = 4096;
 
 // The nodes are the first `len`, and the node at `i` has the number `i + 2`. `heads` has for each bucket the number of
-// its last node, and `next` for each node the number of the last before it in its bucket; 0 stands for none.
+// its last node, and `next` for each node the number of the last before it in its bucket. The nodes stand by themselves, and not each with its
+// `next`, since they are lent as a slice; and in arrays, since a store asks for no memory.
 #[derive(Drop)]
 pub struct Table {
     nodes: [Node; ROOM],
     len: usize,
-    heads: [u32; BUCKETS],
-    next: [u32; ROOM],
+    heads: [Option<u32>; BUCKETS],
+    next: [Option<u32>; ROOM],
     ghost long: { length nodes ≡ 2046 },
     ghost wide: { length heads ≡ 4096 },
     ghost deep: { length next ≡ 2046 },

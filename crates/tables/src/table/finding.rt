@@ -11,13 +11,13 @@ impl Table {
     pub fn find(&self, branch: Branch) -> Option<u32>
         ensures { result ≡ found (rows self.now) branch.x branch.y branch.lo branch.hi }
     {
-        let mut number = self.heads[bucket(branch)];
-        while number != 0 {
+        let mut next = self.heads[bucket(branch)];
+        while let Some(number) = next {
             let i = number as usize - 2;
             if self.nodes[i].branch() == branch {
                 return Some(number);
             }
-            number = self.next[i];
+            next = self.next[i];
         }
         None
     }

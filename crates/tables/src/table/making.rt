@@ -22,7 +22,7 @@ impl Table {
         let b = bucket(node.branch());
         self.nodes[i] = node;
         self.next[i] = self.heads[b];
-        self.heads[b] = number;
+        self.heads[b] = Some(number);
         self.len = i + 1;
         number
     }

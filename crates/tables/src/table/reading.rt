@@ -43,8 +43,8 @@ impl Table {
         Table {
             nodes: [ZERO; ROOM],
             len: 0,
-            heads: [0; BUCKETS],
-            next: [0; ROOM],
+            heads: [None; BUCKETS],
+            next: [None; ROOM],
         }
     }
 
