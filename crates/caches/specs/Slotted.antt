@@ -1,19 +1,14 @@
 -- What a row of slots remembers. Assumes nothing.
-use Rattle.std.specs.Prelude.{ℕ, ◌*◌, ◌/◌, ◌%◌, ◌^◌, Bool, cond, ◌&&◌, List, Some, None, Option, ◌==◌, bit_or, bit_xor, slice_index_or}
+use Rattle.std.specs.Prelude.{ℕ, ◌%◌, Bool, cond, ◌&&◌, List, Some, None, Option, ◌==◌, slice_index_or}
+use Rattle.hashing.specs.Stirring.{stirred}
 use Rattle.caches.specs.declared.Triple.{Triple}
 use Rattle.caches.specs.declared.slots.Pair.{Pair}
 use Rattle.caches.specs.declared.slots.Slots.{Slots}
 use Rattle.caches.specs.Recall.{Recalls, nothing}
 
--- one more number mixed in: a product in 64 bits, turned left by 17
-unfoldable pub stirred : ℕ → ℕ → ℕ
-stirred mixed part =
-    let p = (bit_xor mixed part * 0x9e37_79b9_7f4a_7c15) % 2 ^ 64 in
-    bit_or ((p * 2 ^ 17) % 2 ^ 64) (p / 2 ^ 47)
-
 -- the slot that a triple falls on
 unfoldable pub slot_of : ℕ → ℕ → ℕ → ℕ
-slot_of k a b = stirred (stirred (stirred 0 k) a) b % 512
+slot_of k a b = stirred 17 (stirred 17 (stirred 17 0 k) a) b % 512
 
 abbrev pub same : Triple → ℕ → ℕ → ℕ → Bool
 same t k a b = t.kind == k && t.first == a && t.second == b

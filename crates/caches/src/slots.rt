@@ -1,10 +1,11 @@
 // The cache of 512 slots, each with the last pair that fell on it (a direct-mapped cache).
 ghost use Rattle.std.specs.Prelude.{◌≡◌, ℕ, ◌<◌};
 ghost use Rattle.caches.specs.Recall.{Told, Emptied};
-ghost use Rattle.caches.specs.Slotted.{stirred, slot_of, held, fallen};
+ghost use Rattle.caches.specs.Slotted.{slot_of, held, fallen};
 ghost use Rattle.std.proofs.Common.{rules};
 
 use super::{Cache, Triple};
+use hashing::stir;
 
 const SIZE: usize = 512;
 
@@ -26,22 +27,13 @@ pub struct Slots {
     row: Row,
 }
 
-// One more number mixed in: a product by 2^64 over the golden ratio, turned so that its high bits come low.
-fn stir(mixed: u64, part: u64) -> u64
-    ensures { result ≡ stirred mixed part }
-{
-    (mixed ^ part)
-        .wrapping_mul(0x9e37_79b9_7f4a_7c15)
-        .rotate_left(17)
-}
-
 // The slot of a triple.
 fn slot(triple: Triple) -> usize
     ensures within { result < 512 }
     ensures value { result ≡ slot_of triple.kind triple.first triple.second }
 {
-    let kind = stir(0, triple.kind as u64);
-    let mixed = stir(stir(kind, triple.first), triple.second);
+    let kind = stir::<17>(0, u64::from(triple.kind));
+    let mixed = stir::<17>(stir::<17>(kind, triple.first), triple.second);
     mixed as usize % SIZE
 }
 

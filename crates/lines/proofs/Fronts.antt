@@ -1,8 +1,9 @@
 -- Digits at the front of a text, and the number that they write. Assumes nothing.
-use Rattle.std.proofs.Common.{◌≡◌, ℕ, zero, suc, ◌+◌, ◌-◌, ◌*◌, ◌^◌, ◌<◌, ◌≤◌, List, [], ◌∷◌, ◌++◌, length, get_or, take, drop, decimal, sym, refl, ap, ◌∙◌, subst, arith, rules}
+use Rattle.std.proofs.Common.{◌≡◌, ℕ, zero, suc, ◌+◌, ◌-◌, ◌*◌, ◌^◌, ◌<◌, ◌≤◌, List, [], ◌∷◌, ◌++◌, length, get_or, take, drop, Some, None, decimal, Option, MatchOption, sym, refl, ap, ◌∙◌, subst, arith, rules}
 use Rattle.std.proofs.lemmas.List.{drop_more, drop_all, take_more, length-take}
 use Rattle.std.proofs.ByRecursion.{All-take}
-use Rattle.std.specs.List.{AllByRecursion}
+use Rattle.std.specs.List.{AllByRecursion, AllWithin, HoldsAt}
+use Rattle.std.specs.Option.{unwrap_or}
 use Rattle.std.proofs.lemmas.Str.Parse.{IsNumeralModel, numerals_by_fold, digits_value_short}
 use Rattle.std.proofs.lemmas.Fmt.{digits_decimal, decimal-digits_value, decimal_digit, decimal_nonempty, first_decimal, length-decimal-le, decimal_injective}
 use Rattle.lines.specs.Format.{Digit, Ends, Plain, read_on, more}
@@ -85,3 +86,15 @@ same_number m n r s h k u v t =
 pub ends_more : (ns : List ℕ) → Ends (more ns)
 ends_more [] = tt
 ends_more (n ∷ ns) = λ d. omega (arith, d.0)
+
+-- what holds up to a place holds of the front
+pub front_all : (P : ℕ → Type 0) (xs : List ℕ) (n : ℕ) → n ≤ length xs → AllWithin P xs 0 n → AllByRecursion P (take n xs)
+front_all P xs zero h all = tt
+front_all P [] (suc n) h all = absurd (omega arith)
+front_all P (x ∷ xs) (suc n) h all = (all 0 0 (omega arith) (omega arith), front_all P xs n (omega arith) (λ k d l m. all (suc k) d (omega arith) (omega arith)))
+
+-- all that stands before the first that is not P
+pub before_first : (P : ℕ → Type 0) (xs : List ℕ) (r : Option ℕ) (n : ℕ) → n ≡ unwrap_or r (length xs) →
+    MatchOption r (AllWithin P xs 0 (length xs)) (λ i. (i < length xs) × HoldsAt (λ x. P x → ⊥) xs i × AllWithin P xs 0 i) → AllByRecursion P (take n xs)
+before_first P xs None n e h = subst (λ k. AllByRecursion P (take k xs)) (sym e) (front_all P xs (length xs) (omega arith) h)
+before_first P xs (Some i) n e h = subst (λ k. AllByRecursion P (take k xs)) (sym e) (front_all P xs i (omega (arith, h.0)) h.2)

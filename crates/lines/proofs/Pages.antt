@@ -1,42 +1,16 @@
 -- What is written on a page. Assumes nothing.
-use Rattle.std.proofs.Common.{◌≡◌, ℕ, ◌+◌, ◌-◌, ◌/◌, ◌%◌, ◌^◌, ◌<◌, ◌≤◌, List, [], ◌∷◌, ◌++◌, length, get_or, take, drop, set, decimal, sym, ap, ◌∙◌, append_assoc, add-one, arith}
-use borrow.Rule.Slice.PartMut.{put_mid}
+use Rattle.std.proofs.Common.{◌≡◌, ℕ, zero, suc, ◌+◌, ◌*◌, ◌/◌, ◌%◌, ◌^◌, ◌<◌, ◌≤◌, List, [], ◌∷◌, ◌++◌, length, get_or, take, decimal, Ok, Err, Result, MatchResult, ◌⊎◌, inl, inr, subst, sym, refl, ap, ◌∙◌, append_assoc, append-nil, arith}
 use Rattle.std.proofs.lemmas.Fmt.{decimal_digit, decimal_step, length-decimal-le}
-use Rattle.std.proofs.lemmas.List.{set_split, take_at, drop_at, drop-drop, length-append, length-take-le, length_push, length-drop, take-append-drop}
-use Rattle.std.specs.List.{between}
-use Rattle.std.proofs.lemmas.Slice.{first_rest}
+use Rattle.std.proofs.lemmas.List.{length-append, length_push, take_more, length-take-le}
+use Rattle.std.specs.Result.{IsErr}
+use Rattle.std.proofs.lemmas.Bool.{false≢true}
 use Rattle.lines.specs.Format.{more, written, line}
-use Rattle.lines.specs.Pages.{put}
+use Rattle.orders.specs.declared.refusal.Refusal.{Refusal}
 
-pub set_put : (p : List ℕ) (at b : ℕ) → at < length p → set p at b ≡ put p at (b ∷ [])
-set_put p at b h = set_split p at b h ∙ ap (λ n. take at p ++ (b ∷ drop n p)) (sym (add-one at))
-
-module _ (p : List ℕ) (at : ℕ) (xs : List ℕ) (fits : at + length xs ≤ length p) where
-  pub put_front : put p at xs ≡ (take at p ++ xs) ++ drop (at + length xs) p
-  put_front = sym (append_assoc (take at p) xs (drop (at + length xs) p))
-
-  front_length : length (take at p ++ xs) ≡ at + length xs
-  front_length = length-append (take at p) xs ∙ ap (λ n. n + length xs) (length-take-le at p (omega arith))
-
-  -- more bytes after the first
-  pub put_more : (bs : List ℕ) (e : ℕ) → e ≡ at + length xs → put (put p at xs) e bs ≡ put p at (xs ++ bs)
-  put_more bs e end =
-      let D = drop (at + length xs) p in
-      let X = put p at xs in
-      let long : length (take at p ++ xs) ≡ e = front_length ∙ sym end in
-      let front_is : take e X ≡ take at p ++ xs = ap (take e) put_front ∙ take_at (take at p ++ xs) D e long in
-      let back_is : drop e X ≡ D = ap (drop e) put_front ∙ drop_at (take at p ++ xs) D e long in
-      let size : at + length xs + length bs ≡ at + length (xs ++ bs) = omega (arith, length-append xs bs) in
-      let rest_is : drop (e + length bs) X ≡ drop (at + length (xs ++ bs)) p =
-      sym (drop-drop (length bs) e X) ∙ ap (drop (length bs)) back_is ∙ drop-drop (length bs) (at + length xs) p ∙ ap (λ n. drop n p) size in
-      (λ i. front_is i ++ (bs ++ rest_is i))
-      ∙ append_assoc (take at p) xs (bs ++ drop (at + length (xs ++ bs)) p)
-      ∙ ap (λ l. take at p ++ l) (sym (append_assoc xs bs (drop (at + length (xs ++ bs)) p)))
-
-  pub length_put : length (put p at xs) ≡ length p
-  length_put =
-      ap length put_front ∙ length-append (take at p ++ xs) (drop (at + length xs) p)
-      ∙ omega (arith, front_length, length-drop (at + length xs) p)
+-- what holds where a call failed
+pub err_only : (P Q : Type 0) (r : Result (Unit {0}) Refusal) → IsErr r → Q → MatchResult r (λ _. P) (λ _. Q)
+err_only P Q (Ok _) e q = absurd (false≢true e)
+err_only P Q (Err why) e q = q
 
 -- the digits of a number, and how many there are
 pub length_one : (n : ℕ) → n < 10 → length (decimal n) ≡ 1
@@ -48,59 +22,70 @@ length_step n h k = ap length (decimal_step n h k) ∙ length_push (decimal (n /
 pub length_20 : (n : ℕ) → n < 2 ^ 64 → length (decimal n) ≤ 20
 length_20 n h = length-decimal-le 20 n (omega arith) (omega arith) h
 
--- what a second call leaves, after a first
-pub put_then : (p : List ℕ) (at : ℕ) (xs bs q r : List ℕ) (e : ℕ) → at + length xs ≤ length p → e ≡ at + length xs → q ≡ put p at xs → r ≡ put q e bs → r ≡ put p at (xs ++ bs)
-put_then p at xs bs q r e fits end first second = second ∙ ap (λ l. put l e bs) first ∙ put_more p at xs fits bs e end
-
--- a page keeps its length
-pub long_as : (p q : List ℕ) (at : ℕ) (xs : List ℕ) → at + length xs ≤ length p → q ≡ put p at xs → length q ≡ length p
-long_as p q at xs room e = ap length e ∙ length_put p at xs room
-
--- nothing on a page leaves it as it is
-pub put_none : (p : List ℕ) (at : ℕ) → put p at [] ≡ p
-put_none p at = ap (λ n. take at p ++ drop n p) (let e : at + 0 ≡ at = omega arith in e) ∙ take-append-drop at p
-
--- numbers by their first and the rest
-module _ (ns : List ℕ) (some : 0 < length ns) where
-  abbrev first : ℕ
-  first = get_or ns 0 0
-
-  abbrev rest : List ℕ
-  rest = between 1 (length ns) ns
-
-  pub more_is : more ns ≡ (32 ∷ []) ++ (decimal first ++ more rest)
-  more_is = ap more (first_rest ns 0 some)
-
-  pub written_is : written ns ≡ decimal first ++ more rest
-  written_is = ap written (first_rest ns 0 some)
-
-  pub length_more : length (more ns) ≡ 1 + length (decimal first) + length (more rest)
-  length_more = ap length more_is ∙ omega (arith, length-append (decimal first) (more rest))
-
-  pub length_written : length (written ns) ≡ length (decimal first) + length (more rest)
-  length_written = ap length written_is ∙ length-append (decimal first) (more rest)
-
-  pub length_rest : length rest ≡ length ns - 1
-  length_rest = omega (arith, ap length (first_rest ns 0 some))
-
-  -- a number and what follows it, put one after the other
-  pub put_two : (p q r : List ℕ) (at e : ℕ) → at + length (written ns) ≤ length p → e ≡ at + length (decimal first) →
-      q ≡ put p at (decimal first) → r ≡ put q e (more rest) → r ≡ put p at (written ns)
-  put_two p q r at e room end one two =
-      put_then p at (decimal first) (more rest) q r e (omega (arith, length_written)) end one two ∙ ap (put p at) (sym written_is)
-
-  -- the same after a blank
-  pub put_three : (p b q r : List ℕ) (at a e : ℕ) → at + length (more ns) ≤ length p → a ≡ at + 1 → e ≡ a + length (decimal first) →
-      b ≡ put p at (32 ∷ []) → q ≡ put b a (decimal first) → r ≡ put q e (more rest) → r ≡ put p at (more ns)
-  put_three p b q r at a e room start end blank one two =
-      let m : q ≡ put p at ((32 ∷ []) ++ decimal first) = put_then p at (32 ∷ []) (decimal first) b q a (omega (arith, length_more)) start blank one in
-      put_then p at ((32 ∷ []) ++ decimal first) (more rest) q r e (omega (arith, length_more)) (omega arith) m two ∙ ap (put p at) (sym more_is)
-
--- what is written into a part of a page
-pub put_part : (p part xs : List ℕ) (at : ℕ) → part ≡ xs → put_mid at ((at + length xs) - at) p part ≡ put p at xs
-put_part p part xs at e =
-    let size : (at + length xs) - at ≡ length xs = omega arith in
-    (λ i. take at p ++ (e i ++ drop (size i) (drop at p))) ∙ ap (λ l. take at p ++ (xs ++ l)) (drop-drop (length xs) at p)
+-- one byte more at the end
+pub length_end : (l ds : List ℕ) (d : ℕ) → l ≡ ds ++ d ∷ [] → length l ≡ length ds + 1
+length_end l ds d e = ap length e ∙ length_push ds d
 
 pub length_line : (ns : List ℕ) → length (line ns) ≡ length (written ns) + 1
 length_line ns = length-append (written ns) (10 ∷ [])
+
+-- the line is as long as its numbers with a byte for each, or it is its end alone
+pub line_long : (ns : List ℕ) → ((length (more ns) ≡ 0) × (length (line ns) ≡ 1)) ⊎ ((1 ≤ length (more ns)) × (length (line ns) ≡ length (more ns)))
+line_long [] = inl (refl, refl)
+line_long (n ∷ ns) = inr (omega arith, omega (arith, length_line (n ∷ ns)))
+
+-- one number more
+pub more_push : (ns : List ℕ) (n : ℕ) → more (ns ++ n ∷ []) ≡ more ns ++ (32 ∷ decimal n)
+more_push [] n = ap (λ l. 32 ∷ l) (append-nil (decimal n))
+more_push (m ∷ ns) n =
+    ap (λ l. 32 ∷ (decimal m ++ l)) (more_push ns n) ∙ ap (λ l. 32 ∷ l) (sym (append_assoc (decimal m) (more ns) (32 ∷ decimal n)))
+
+module _ (ns : List ℕ) (i : ℕ) (h : i < length ns) where
+  abbrev here : ℕ
+  here = get_or ns i 0
+
+  pub length_more_take : length (more (take (i + 1) ns)) ≡ length (more (take i ns)) + (1 + length (decimal here))
+  length_more_take =
+      let all = ap (λ l. length (more l)) (take_more ns i 0 h) ∙ ap length (more_push (take i ns) here) in
+      omega (arith, all, length-append (more (take i ns)) (32 ∷ decimal here))
+
+-- what stands in front of the number at a place: a blank, but nothing in front of the first
+abbrev pub Lead : ℕ → List ℕ → Type 0
+Lead i ls = ((i ≡ 0) × (ls ≡ [])) ⊎ ((0 < i) × (ls ≡ 32 ∷ []))
+
+written_push : (ms : List ℕ) (n : ℕ) (ls : List ℕ) → Lead (length ms) ls → written (ms ++ n ∷ []) ≡ written ms ++ (ls ++ decimal n)
+written_push [] n ls (inl w) = append-nil (decimal n) ∙ ap (λ l. l ++ decimal n) (sym w.1)
+written_push [] n ls (inr w) = absurd (omega (arith, w.0))
+written_push (m ∷ ms) n ls (inl w) = absurd (omega (arith, w.0))
+written_push (m ∷ ms) n ls (inr w) =
+    ap (λ l. decimal m ++ l) (more_push ms n) ∙ sym (append_assoc (decimal m) (more ms) (32 ∷ decimal n))
+    ∙ ap (λ l. (decimal m ++ more ms) ++ (l ++ decimal n)) (sym w.1)
+
+pub written_take : (ns : List ℕ) (i : ℕ) → i < length ns → (ls : List ℕ) → Lead i ls → written (take (i + 1) ns) ≡ written (take i ns) ++ (ls ++ decimal (get_or ns i 0))
+written_take ns i h ls lead =
+    ap written (take_more ns i 0 h)
+    ∙ written_push (take i ns) (get_or ns i 0) ls (subst (λ n. Lead n ls) (sym (length-take-le i ns (omega arith))) lead)
+
+more_front : (ns : List ℕ) (i : ℕ) → length (more (take i ns)) ≤ length (more ns)
+more_front ns zero = omega arith
+more_front [] (suc i) = omega arith
+more_front (n ∷ ns) (suc i) = omega (arith, more_front ns i, length-append (decimal n) (more (take i ns)), length-append (decimal n) (more ns))
+
+written_front : (ns : List ℕ) (i : ℕ) → length (written (take i ns)) ≤ length (written ns)
+written_front ns zero = omega arith
+written_front [] (suc i) = omega arith
+written_front (n ∷ ns) (suc i) = omega (arith, more_front ns i, length-append (decimal n) (more (take i ns)), length-append (decimal n) (more ns))
+
+-- the line has at least what is written with the number at a place
+pub written_up_to : (ns : List ℕ) (i : ℕ) → i < length ns → (ls : List ℕ) → Lead i ls → length (written (take i ns)) + (length ls + length (decimal (get_or ns i 0))) ≤ length (written ns)
+written_up_to ns i h ls lead =
+    let all = ap length (written_take ns i h ls lead) in
+    omega (arith, all, written_front ns (i + 1), length-append (written (take i ns)) (ls ++ decimal (get_or ns i 0)), length-append ls (decimal (get_or ns i 0)))
+
+more_few : (ns : List ℕ) → ((i : ℕ) → get_or ns i 0 < 2 ^ 64) → length (more ns) ≤ 21 * length ns
+more_few [] h = omega arith
+more_few (n ∷ ns) h = omega (arith, more_few ns (λ i. h (suc i)), length_20 n (h 0), length-append (decimal n) (more ns))
+
+-- a line of at most 16 numbers fits in 337 bytes
+pub line_few : (ns : List ℕ) → ((i : ℕ) → get_or ns i 0 < 2 ^ 64) → length ns ≤ 16 → length (line ns) ≤ 337
+line_few ns h few = omega (arith, more_few ns h, line_long ns)

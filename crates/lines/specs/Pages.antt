@@ -1,6 +1,8 @@
 -- What is put on a lent page. Assumes nothing.
 use Rattle.std.specs.Prelude.{◌≡◌, ℕ, ◌+◌, ◌<◌, ◌≤◌, List, ◌++◌, length, take, drop, Ok, Err, Result}
 use Rattle.orders.specs.declared.refusal.Refusal.{Refusal}
+use Rattle.lists.specs.declared.filled.Filled.{Filled}
+use Rattle.lists.specs.Items.{items_of, room_of, Extended}
 use Rattle.orders.specs.declared.refusal.Refusal.TheVariants.{ShortPage}
 
 -- the page with the bytes in place of what stood from `at` on; the rest of it stays
@@ -23,3 +25,8 @@ pub record Short (before after : List ℕ) (at : ℕ) (bytes : List ℕ) (why : 
 abbrev pub Put : List ℕ → List ℕ → ℕ → List ℕ → Result ℕ Refusal → Type 0
 Put before after at bytes (Ok end) = Stands before after at bytes end
 Put before after at bytes (Err why) = Short before after at bytes why
+
+-- what putting bytes on a page that is a list answers: they stand behind the others, or there is not room for them and nothing has changed
+abbrev pub Laid : Filled ℕ → Filled ℕ → List ℕ → Result (Unit {0}) Refusal → Type 0
+Laid before after bytes (Ok _) = Extended before after bytes
+Laid before after bytes (Err why) = (why ≡ ShortPage) × (length (room_of before) < length (items_of before) + length bytes) × (after ≡ before)

@@ -12,11 +12,9 @@ fn digit_count(text: &[u8]) -> usize
     ensures digits { AllByRecursion Digit (take result text.now) }
     ensures stops { Ends (drop result text.now) }
 {
-    let mut n = 0;
-    while n < text.len() && text[n].is_ascii_digit() {
-        n += 1;
-    }
-    n
+    text.iter()
+        .position(|b| !b.is_ascii_digit())
+        .unwrap_or(text.len())
 }
 
 // Whether the digits are those of a number below 10^14, as it is printed.
@@ -88,10 +86,6 @@ pub fn first_line(text: &[u8]) -> Option<(&[u8], &[u8])>
         (Without 10 text.now)
         (λ p. (text.now ≡ p.0.now ++ 10 ∷ p.1.now) × Without 10 p.0.now) }
 {
-    for (i, b) in text.iter().enumerate() {
-        if *b == b'\n' {
-            return Some((&text[0..i], &text[i + 1..]));
-        }
-    }
-    None
+    let end = text.iter().position(|b| *b == b'\n')?;
+    Some((&text[..end], &text[end + 1..]))
 }

@@ -1,9 +1,15 @@
-// Lines put on a lent page. What does not fit is refused before a byte is written.
-ghost use Rattle.std.specs.Prelude.{◌≡◌, ◌+◌, ◌*◌, ◌<◌, ◌≤◌, [], ◌∷◌, ◌++◌, length, decimal};
-ghost use Rattle.lines.specs.Format.{more, written, line};
-ghost use Rattle.lines.specs.Pages.{put, Put};
+// Lines put on a page, which is a list of bytes. What does not fit is refused, and the page stays as it was.
+ghost use Rattle.std.specs.Prelude.{◌≡◌, ◌+◌, ◌*◌, ◌<◌, ◌≤◌, [], ◌∷◌, ◌++◌, length, decimal, MatchResult};
+ghost use Rattle.lists.specs.Items.{items_of, room_of, Extended};
+ghost use Rattle.lines.specs.Format.{written, line};
+ghost use Rattle.lines.specs.Pages.{Laid};
 
+use crate::numbers::MOST;
+use lists::Filled;
 use orders::Refusal;
+
+// How many bytes the longest line has: at most 20 digits and one byte behind them for each number.
+const LONGEST: usize = MOST * 21;
 
 // How many digits the number has.
 fn digit_len(n: u64) -> usize
@@ -13,107 +19,62 @@ fn digit_len(n: u64) -> usize
     if n < 10 { 1 } else { digit_len(n / 10) + 1 }
 }
 
-// How many bytes the numbers have that follow others, each after one blank.
-fn more_len(values: &[u64]) -> usize
-    requires { length values.now ≤ 16 }
-    ensures bytes { result ≡ length (more values.now) }
-    ensures few { result ≤ 21 * length values.now }
-{
-    match values {
-        [] => 0,
-        [first, rest @ ..] => 1 + digit_len(*first) + more_len(rest),
-    }
-}
-
-// How many bytes the line of the numbers has, with its end.
+// How many bytes the line of the numbers has: behind each is a blank or the line's end, which stands alone where there is none.
 pub fn line_len(values: &[u64]) -> usize
     requires { length values.now ≤ 16 }
     ensures bytes { result ≡ length (line values.now) }
     ensures few { result ≤ 21 * length values.now + 1 }
 {
-    match values {
-        [] => 1,
-        [first, rest @ ..] => digit_len(*first) + more_len(rest) + 1,
+    let mut len = 0;
+    for value in values {
+        len += digit_len(*value) + 1;
     }
+    len.max(1)
 }
 
-// Writes one byte, and answers where it ends.
-fn put_byte(page: &mut [u8], at: usize, b: u8) -> usize
-    requires { at < length page.old }
-    ensures end { result ≡ at + 1 }
-    ensures page { page.new ≡ put page.old at (b ∷ []) }
+// Writes the digits of a number.
+fn put_number(page: &mut Filled<u8>, n: u64) -> Result<(), Refusal>
+    ensures answer { MatchResult result (λ _. Extended page.old page.new (decimal n)) (λ _. length (room_of page.old) < length (items_of page.old) + length (decimal n)) }
+    ensures lender { page.new.room.ghost_name ≡ page.old.room.ghost_name }
 {
-    page[at] = b;
-    at + 1
-}
-
-// Writes the digits of a number, and answers where they end.
-fn put_digits(page: &mut [u8], at: usize, n: u64) -> usize
-    requires { at + length (decimal n) ≤ length page.old }
-    ensures end { result ≡ at + length (decimal n) }
-    ensures page { page.new ≡ put page.old at (decimal n) }
-{
-    let last = b'0' + (n % 10) as u8;
-    if n < 10 {
-        put_byte(page, at, last)
-    } else {
-        let at = put_digits(page, at, n / 10);
-        put_byte(page, at, last)
+    if n >= 10 {
+        put_number(page, n / 10)?;
     }
+    page.add(b'0' + (n % 10) as u8)?;
+    Ok(())
 }
 
-// Writes numbers that follow others, each after one blank, and answers where they end.
-fn put_more(page: &mut [u8], at: usize, values: &[u64]) -> usize
-    requires { at + length (more values.now) ≤ length page.old }
-    ensures end { result ≡ at + length (more values.now) }
-    ensures page { page.new ≡ put page.old at (more values.now) }
+// Writes the numbers of a line, with a blank before each but the first.
+fn put_numbers(page: &mut Filled<u8>, values: &[u64]) -> Result<(), Refusal>
+    ensures answer { MatchResult result (λ _. Extended page.old page.new (written values.now)) (λ _. length (room_of page.old) < length (items_of page.old) + length (written values.now)) }
+    ensures lender { page.new.room.ghost_name ≡ page.old.room.ghost_name }
 {
-    match values {
-        [] => at,
-        [first, rest @ ..] => {
-            let at = put_byte(page, at, b' ');
-            let at = put_digits(page, at, *first);
-            put_more(page, at, rest)
+    for (i, value) in values.iter().enumerate() {
+        if i > 0 {
+            page.add(b' ')?;
         }
+        put_number(page, *value)?;
     }
+    Ok(())
 }
 
-// Writes the numbers of a line, and answers where they end.
-fn put_values(page: &mut [u8], at: usize, values: &[u64]) -> usize
-    requires { at + length (written values.now) ≤ length page.old }
-    ensures end { result ≡ at + length (written values.now) }
-    ensures page { page.new ≡ put page.old at (written values.now) }
-{
-    match values {
-        [] => at,
-        [first, rest @ ..] => {
-            let at = put_digits(page, at, *first);
-            put_more(page, at, rest)
-        }
-    }
-}
-
-// Writes the line of at most 16 numbers from `at` on, and answers where it ends.
-pub fn put_line(page: &mut [u8], at: usize, values: &[u64]) -> Result<usize, Refusal>
+// Writes the line of at most 16 numbers.
+pub fn put_line(page: &mut Filled<u8>, values: &[u64]) -> Result<(), Refusal>
     requires { length values.now ≤ 16 }
-    ensures { Put page.old page.new at (line values.now) result }
+    ensures answer { Laid page.old page.new (line values.now) result }
+    ensures lender { page.new.room.ghost_name ≡ page.old.room.ghost_name }
 {
-    let len = line_len(values);
-    if page.len() < len || page.len() - len < at {
-        return Err(Refusal::ShortPage);
-    }
-    let end = put_values(page, at, values);
-    Ok(put_byte(page, end, b'\n'))
+    let mut room = [0; LONGEST + 1];
+    let mut line = Filled::new(&mut room);
+    put_numbers(&mut line, values)?;
+    line.add(b'\n')?;
+    put_bytes(page, line.items())
 }
 
-// Writes bytes as they are from `at` on, and answers where they end.
-pub fn put_bytes(page: &mut [u8], at: usize, bytes: &[u8]) -> Result<usize, Refusal>
-    ensures { Put page.old page.new at bytes.now result }
+// Writes bytes as they are.
+pub fn put_bytes(page: &mut Filled<u8>, bytes: &[u8]) -> Result<(), Refusal>
+    ensures answer { Laid page.old page.new bytes.now result }
+    ensures lender { page.new.room.ghost_name ≡ page.old.room.ghost_name }
 {
-    if page.len() < bytes.len() || page.len() - bytes.len() < at {
-        return Err(Refusal::ShortPage);
-    }
-    let end = at + bytes.len();
-    page[at..end].copy_from_slice(bytes);
-    Ok(end)
+    page.extend(bytes).map_err(|_| Refusal::ShortPage)
 }

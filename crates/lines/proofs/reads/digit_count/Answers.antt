@@ -1,14 +1,12 @@
-use Rattle.std.proofs.Common.{arith, rules}
-use Rattle.std.proofs.ByRecursion.{All-more}
+use Rattle.std.proofs.Common.{rules}
+use borrow.Author.Tests.{tests}
+use Rattle.std.proofs.lemmas.Iterator.{IsFirst-from_position, YieldsList-from_slice}
 use Rattle.lines.specs.Format.{Digit}
-use Rattle.lines.proofs.Fronts.{ends_here, ends_all}
+use Rattle.lines.proofs.Fronts.{before_first}
 use Rattle.lines.proofs.reads.digit_count.Goals as goal
 
-pub loop-n-preserved : goal.loop-n-preserved
-loop-n-preserved c = (omega arith, All-more Digit c.args.text.now c.loop-n.n 0 c.loop-n-test.true c.loop-n.invariant.1 c.if-is_ascii_digit.ensures.cases)
-
-pub returns-else-is_ascii_digit : goal.returns-else-is_ascii_digit
-returns-else-is_ascii_digit c = record { within = c.loop-n.invariant.0; digits = c.loop-n.invariant.1; stops = ends_here _ _ c.loop-n-test.true (search rules) }
-
-pub returns-after-loop-n : goal.returns-after-loop-n
-returns-after-loop-n c = record { within = c.loop-n.invariant.0; digits = c.loop-n.invariant.1; stops = ends_all _ c.loop-n.n (omega arith) }
+pub returns-clause-digits : goal.returns-clause-digits
+returns-clause-digits c =
+    before_first Digit c.args.text.now c.position.result c.unwrap_or.result c.unwrap_or.ensures
+    (IsFirst-from_position _ _ _ (λ b. Digit b → ⊥) Digit c.position.ensures.ran (YieldsList-from_slice c.args.text.now cc)
+    (λ x q k. search (rules, tests)) (λ x q k. search (rules, tests)))

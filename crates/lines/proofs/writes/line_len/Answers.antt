@@ -1,13 +1,22 @@
-use Rattle.std.proofs.Common.{◌<◌, length, arith, ltb-false}
-use Rattle.lines.proofs.Pages.{length_written, length_rest, length_line}
+use Rattle.std.proofs.Common.{length, ap, arith}
+use Rattle.std.proofs.lemmas.List.{take_all}
+use Rattle.lines.specs.Format.{more}
+use Rattle.lines.proofs.Pages.{length_more_take, line_long}
 use Rattle.lines.proofs.writes.line_len.Goals as goal
 
-pub returns-in-len1-up : goal.returns-in-len1-up
-returns-in-len1-up c =
-    let some : 0 < length c.args.values.now = omega (arith, ltb-false) in
-    let long = length_written c.args.values.now some in
-    let rest = length_rest c.args.values.now some in
+pub loop-value-preserved : goal.loop-value-preserved
+loop-value-preserved c = (
+  omega (arith, c.loop-value.invariant.0, c.digit_len.ensures.digits, length_more_take c.args.values.now c.loop-value.value-index c.loop-value-test.true),
+  omega (arith, c.loop-value.invariant.1, c.digit_len.ensures.few),
+)
+
+pub overflow_add-len-in-loop-value : goal.overflow_add-len-in-loop-value
+overflow_add-len-in-loop-value c = omega (arith, c.requires, c.loop-value.invariant.1, c.digit_len.ensures.few)
+
+pub returns : goal.returns
+returns c =
+    let whole = ap (λ l. length (more l)) (take_all c.loop-value.value-index c.args.values.now c.loop-value-test.false) in
     record {
-      bytes = omega (arith, long, length_line c.args.values.now, c.digit_len.ensures.digits, c.more_len.ensures.bytes);
-      few = omega (arith, rest, c.digit_len.ensures.few, c.more_len.ensures.few);
+      bytes = omega (arith, c.max.ensures, c.loop-value.invariant.0, whole, line_long c.args.values.now);
+      few = omega (arith, c.max.ensures, c.loop-value.invariant.1, c.loop-value.auto.value-index-end);
     }
