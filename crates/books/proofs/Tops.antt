@@ -1,10 +1,7 @@
 -- Lines 1 to 3 of a book, question by question. Assumes nothing.
-use Rattle.std.proofs.Common.{◌≡◌, ℕ, List, get_or, Ok, Err, ap, ◌∙◌, ap₂, arith}
-use Rattle.lines.specs.declared.numbers.Fields.{Fields}
-use Rattle.lines.specs.Held.{held, Fits}
+use Rattle.std.proofs.Common.{◌≡◌, ℕ, List, get_or, Ok, Err, ap, ◌∙◌}
 use Rattle.sheets.specs.declared.fault.Fault.{Fault}
 use Rattle.sheets.specs.Lines.{after, names, values}
-use Rattle.sheets.proofs.Tops.{held_at}
 use Rattle.books.specs.declared.top.Book.{Book}
 use Rattle.books.specs.Format.{head, order_name}
 use Rattle.books.specs.Reading.{book_of, third, second, top}
@@ -36,8 +33,3 @@ module _ (text : List ℕ) where
 
         pub top_ok : (rest : List ℕ) → names order_name 3 u ≡ Ok rest → top text ≡ Ok (b, rest)
         top_ok rest e = then_names ∙ ap (λ r. after r (λ rest. Ok (b, rest))) e
-
--- the two fields of line 2 are the values that it holds
-pub held_book : (f : Fields) → Fits f → (text rest : List ℕ) → values 2 2 text ≡ Ok (held f, rest) →
-    book_of (get_or (held f) 0 0) (get_or (held f) 1 0) ≡ book_of (get_or f.values 0 0) (get_or f.values 1 0)
-held_book f fits text rest e = ap₂ book_of (held_at f fits 2 2 text rest e 0 (omega arith)) (held_at f fits 2 2 text rest e 1 (omega arith))

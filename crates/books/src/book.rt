@@ -5,27 +5,23 @@ ghost use Rattle.books.specs.Reading.{Outcome, rows, read};
 ghost use Rattle.books.specs.Gives.{Gives, Kept};
 ghost use Rattle.books.specs.Exact.{Exact};
 
-use super::faults::{bad_row, no_room};
-use super::search::line_after;
+use super::search::FIRST_LINE;
 use super::top::{Book, read_top};
 use lines::order_of;
 use lists::Filled;
-use sheets::{Fault, line_values};
+use sheets::{Fault, Part, line_values};
 
 // One order: 14, 3, then 7. Its code goes into the list.
 fn read_order<'a>(text: &'a [u8], book: Book, list: &mut Filled<u64>) -> Result<&'a [u8], Fault>
     ensures gives { Gives book (length (room_of list.old)) (items_of list.old) text.now (items_of list.new) result }
     ensures kept { Kept list.old list.new }
 {
-    let line = line_after(list.items());
+    let line = list.len() as u64 + FIRST_LINE;
     let (found, rest) = line_values(text, line, usize::from(book.pieces))?;
-    let Ok(order) = order_of(found) else {
-        return Err(bad_row(line));
-    };
-    match list.add(order.code()) {
-        Ok(_) => Ok(rest),
-        Err(_) => Err(no_room(line)),
-    }
+    let order = order_of(found).map_err(|refusal| Fault::new(refusal, line, Part::Line))?;
+    list.add(order.code())
+        .map_err(|refusal| Fault::new(refusal, line, Part::Book))?;
+    Ok(rest)
 }
 
 // All orders of the text, one after the other.

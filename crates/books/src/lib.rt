@@ -2,7 +2,6 @@
 #![tactic(auto)]
 
 mod book;
-mod faults;
 mod names;
 mod search;
 mod top;

@@ -1,22 +1,17 @@
 // The lines that the orders of a book stand on.
-ghost use Rattle.std.specs.Prelude.{◌≡◌, ◌+◌, length};
 ghost use Rattle.lists.specs.Items.{items_of};
 ghost use Rattle.books.specs.Search.{OnLine};
 
 use lists::Filled;
 use orders::Order;
 
-// The number of the line that comes after those of these orders.
-pub(crate) fn line_after(codes: &[u64]) -> u64
-    ensures { result ≡ length codes.now + 4 }
-{
-    codes.len() as u64 + 4
-}
+// The line of the first order.
+pub(crate) const FIRST_LINE: u64 = 4;
 
 // A line of the book that has the order, or none exactly where no line has it.
 pub fn line_of(list: &Filled<u64>, order: Order) -> Option<u64>
     ensures { OnLine (items_of list.now) order result }
 {
     let place = list.find(&order.code())?;
-    Some(line_after(&list.items()[..place]))
+    Some(place as u64 + FIRST_LINE)
 }

@@ -1,10 +1,10 @@
 // Lines 1 to 3 of a book.
-ghost use Rattle.std.specs.Prelude.{◌≡◌, Ok, Err, MatchResult};
+ghost use Rattle.std.specs.Prelude.{◌≡◌, ◌≤◌, Ok, Err, MatchOption, MatchResult};
 ghost use Rattle.books.specs.Reading.{book_of, top};
 
-use super::faults::{bad_pieces, other_chain};
 use super::names::{after_head, after_order_name};
-use sheets::{Fault, line_values};
+use orders::Refusal;
+use sheets::{Fault, Part, line_array};
 
 // What a book says of its orders: how many pieces they move, and the chain that is to work them.
 #[derive(Clone, Copy, PartialEq, Eq, Debug)]
@@ -13,20 +13,22 @@ pub struct Book {
     pub chain: u8,
 }
 
-// The two values of line 2: pieces 2 to 16, then chain 1 or 2.
+// A value from `least` to `most`.
+fn within(value: u64, least: u8, most: u8) -> Option<u8>
+    ensures { MatchOption result (least ≤ value → value ≤ most → ⊥) (λ v. (v ≡ value) × (least ≤ v) × (v ≤ most)) }
+{
+    u8::try_from(value)
+        .ok()
+        .filter(|v| least <= *v && *v <= most)
+}
+
+// The two values of line 2: pieces 2 to 16, then chain 1 or 2, by its code.
 fn book_of(pieces: u64, chain: u64) -> Result<Book, Fault>
     ensures { result ≡ book_of pieces chain }
 {
-    if pieces < 2 || pieces > 16 {
-        return Err(bad_pieces());
-    }
-    if chain < 1 || chain > 2 {
-        return Err(other_chain());
-    }
-    Ok(Book {
-        pieces: pieces as u8,
-        chain: chain as u8,
-    })
+    let pieces = within(pieces, 2, 16).ok_or(Fault::new(Refusal::BadPieces, 2, Part::Book))?;
+    let chain = within(chain, 1, 2).ok_or(Fault::new(Refusal::OtherChain, 2, Part::Book))?;
+    Ok(Book { pieces, chain })
 }
 
 // Lines 1 to 3, and the text after them.
@@ -36,8 +38,8 @@ pub fn read_top(text: &[u8]) -> Result<(Book, &[u8]), Fault>
         (λ f. top text.now ≡ Err f) }
 {
     let text = after_head(text)?;
-    let (found, text) = line_values(text, 2, 2)?;
-    let book = book_of(found.values[0], found.values[1])?;
+    let ([pieces, chain], text) = line_array::<2>(text, 2)?;
+    let book = book_of(pieces, chain)?;
     let rest = after_order_name(text)?;
     Ok((book, rest))
 }

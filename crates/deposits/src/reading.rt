@@ -27,24 +27,16 @@ fn enter<G: Chain, C: Cache>(
     ensures kept { Kept G.table C.recalls store.new }
     ensures lender { numbers.new.room.ghost_name ≡ numbers.old.room.ghost_name }
 {
-    match lines {
-        [] => Ok(()),
-        [first, rest @ ..] => {
-            let lo = number_of(numbers.items(), first.lo);
-            let hi = number_of(numbers.items(), first.hi);
-            match store.add(first.x, first.y, u64::from(lo), u64::from(hi)) {
-                Ok(handle) => {
-                    let _ = numbers.add(handle.number);
-                    enter(store, rest, numbers)
-                }
-                Err(refusal) => Err(Fault {
-                    refusal,
-                    line: numbers.len() as u64 + 4,
-                    part: Part::Store,
-                }),
-            }
-        }
+    for line in lines {
+        let number = numbers.len() as u64 + 4;
+        let lo = number_of(numbers.items(), line.lo);
+        let hi = number_of(numbers.items(), line.hi);
+        let handle = store
+            .add(line.x, line.y, u64::from(lo), u64::from(hi))
+            .map_err(|refusal| Fault::new(refusal, number, Part::Store))?;
+        let _ = numbers.add(handle.number);
     }
+    Ok(())
 }
 
 // Checks a whole sheet, and then finds or adds its nodes in the store, line by line. Answers the set's handle, and the text is that set's own

@@ -1,5 +1,6 @@
 -- Node lines, one after the other. Assumes nothing.
-use Rattle.std.proofs.Common.{◌≡◌, ℕ, suc, ◌+◌, ◌-◌, ◌<◌, ◌≤◌, Bool, true, false, not, ◌&&◌, eqb, ltb, List, [], ◌∷◌, ◌++◌, length, IsErrAnd, Ok, Err, Result, sym, refl, ap, ◌∙◌, subst, true≢false, arith, length-append, length-set, Bor, ltb-false, ltb-true, le-ltb, lt-ltb, ne_eqb}
+use Rattle.std.proofs.Common.{◌≡◌, ℕ, suc, ◌+◌, ◌-◌, ◌<◌, ◌≤◌, Bool, true, false, not, ◌&&◌, eqb, ltb, List, [], ◌∷◌, ◌++◌, length, IsErrAnd, Ok, Err, Option, Result, MatchOption, sym, refl, ap, ◌∙◌, subst, true≢false, arith, length-append, length-set, Bor, ltb-false, ltb-true, le-ltb, lt-ltb, ne_eqb}
+use Rattle.std.specs.Bool.{then_some}
 use Rattle.orders.specs.declared.refusal.Refusal.{Refusal}
 use Rattle.lists.specs.declared.node_line.NodeLine.{NodeLine}
 use Rattle.lists.specs.declared.filled.Filled.{Filled}
@@ -14,6 +15,9 @@ use Rattle.sheets.specs.Faults.{bad_node}
 use Rattle.sheets.specs.Lines.{ask, after, values}
 use Rattle.sheets.specs.Checks.{grown, tabled_on, tabled, paired, earlier, placed, keeps, line_from, row_by, row, Outcome, rows_by, rows}
 use Rattle.sheets.specs.Gives.{Gives}
+use Rattle.sheets.specs.declared.rules.Branch.{Branch}
+use Rattle.sheets.specs.declared.reader.Reader.{Reader}
+use Rattle.sheets.specs.Reading.{branch_line, Wide, Stays}
 use Rattle.sheets.proofs.Keeps.{and_both, askable}
 
 tabled_on_push : (N : List Node) (ls : List NodeLine) (a : NodeLine) → tabled_on N (ls ++ (a ∷ [])) ≡ grown (tabled_on N ls) a
@@ -67,6 +71,25 @@ kept pieces N a few e =
       hi_some = ltb-true 0 a.hi u.0;
       new = ltb-false _ _ (not_true there s.1);
     }
+
+-- a line with a value that is larger than that of any node keeps no rules
+pub keeps_wide : (pieces : ℕ) (N : List Node) (a : NodeLine) → length N ≤ 2046 → Wide a → keeps pieces N a ≡ false
+keeps_wide pieces N a few wide = by (keeps pieces N a) refl
+  where
+    by : (b : Bool) → keeps pieces N a ≡ b → b ≡ false
+    by true e =
+        let k = (kept pieces N a few e).asks in
+        absurd (wide (omega (arith, k.x_max)) (omega (arith, k.x_max, k.y_below)) (omega (arith, k.lo_there, few)) (omega (arith, k.hi_there, few)))
+    by false e = refl
+
+-- the branch of a line is answered where it keeps the rules
+pub branch_kept : (pieces : ℕ) (N : List Node) (a : NodeLine) (b : Branch) (keep : Bool) (o : Option Branch) → o ≡ then_some keep b → keep ≡ keeps pieces N a →
+    branch_line b ≡ a → MatchOption o (keeps pieces N a ≡ false) (λ b. (keeps pieces N a ≡ true) × (branch_line b ≡ a))
+branch_kept pieces N a b keep o is k e = subst (λ p. MatchOption p (keeps pieces N a ≡ false) (λ b. (keeps pieces N a ≡ true) × (branch_line b ≡ a))) (sym is) (by keep k)
+  where
+    by : (t : Bool) → t ≡ keeps pieces N a → MatchOption (then_some t b) (keeps pieces N a ≡ false) (λ b. (keeps pieces N a ≡ true) × (branch_line b ≡ a))
+    by true q = (sym q, e)
+    by false q = sym q
 
 pub kept_in : (pieces : ℕ) (N : List Node) (ls : List NodeLine) (a : NodeLine) → N ≡ tabled ls → length ls < 2046 → keeps pieces N a ≡ true → (length N < 2046) × Kept N a
 kept_in pieces N ls a e room k =
@@ -166,3 +189,61 @@ module _ (count pieces : ℕ) (ls : List NodeLine) (text : List ℕ) (some : cou
   all_on rest e =
       let r = first_on (count - 1) pieces ls text rest e in
       (ap length is ∙ r.0, ap (λ n. rows n pieces ls text) more_than_one ∙ r.1 ∙ ap (λ (l : List NodeLine). rows (count - 1) pieces l rest) (sym is))
+
+-- so far k of the lines were read, and these are left
+pub record Going (start : Reader) (count : ℕ) (text : List ℕ) (now : Reader) (rest : List ℕ) (k : ℕ) : Type 0 where
+  pub within : k ≤ count
+  pub few : length (items_of now.lines.now) + (count - k) ≤ 2046
+  pub left : rows count start.pieces (items_of start.lines.now) text ≡ rows (count - k) start.pieces (items_of now.lines.now) rest
+  pub stays : Stays start now
+
+pub going_none : (start : Reader) (count : ℕ) (text : List ℕ) → length (items_of start.lines.now) + count ≤ 2046 → Going start count text start text 0
+going_none start count text few = record {
+  within = omega arith;
+  few = omega arith;
+  left = ap (λ n. rows n start.pieces (items_of start.lines.now) text) (let e : count ≡ count - 0 = omega arith in e);
+  stays = record { pieces = refl; lender = refl; memory = refl; list = refl };
+}
+
+-- one step
+module _ (start : Reader) (count : ℕ) (text : List ℕ) (now : Reader) (rest : List ℕ) (k : ℕ) (g : Going start count text now rest k) (more : k < count)
+    (next : Reader) (stays : Stays now next) where
+  some : count - k ≡ 0 → ⊥
+  some e = omega (arith, more)
+
+  -- by the pieces of the start
+  pieces_are : rows 1 now.pieces (items_of now.lines.now) rest ≡ rows 1 start.pieces (items_of now.lines.now) rest
+  pieces_are = ap (λ p. rows 1 p (items_of now.lines.now) rest) g.stays.pieces
+
+  stays_on : Stays start next
+  stays_on = record {
+    pieces = stays.pieces ∙ g.stays.pieces;
+    lender = stays.lender ∙ g.stays.lender;
+    memory = stays.memory ∙ g.stays.memory;
+    list = stays.list ∙ g.stays.list;
+  }
+
+  pub going_more : (after : List ℕ) → items_of next.lines.now ≡ (rows 1 now.pieces (items_of now.lines.now) rest).0 →
+      (rows 1 now.pieces (items_of now.lines.now) rest).1 ≡ Ok after → Going start count text next after (k + 1)
+  going_more after is e =
+      let on = all_on (count - k) start.pieces (items_of now.lines.now) rest some (items_of next.lines.now)
+      (is ∙ ap (λ (o : Outcome (List ℕ)). o.0) pieces_are) after (ap (λ (o : Outcome (List ℕ)). o.1) (sym pieces_are) ∙ e) in
+      record {
+        within = omega arith;
+        few = omega (arith, on.0, g.few, more);
+        left = g.left ∙ on.1 ∙ ap (λ n. rows n start.pieces (items_of next.lines.now) after) (let e : count - k - 1 ≡ count - (k + 1) = omega arith in e);
+        stays = stays_on;
+      }
+
+  pub going_fault : (f : Fault) (r : Result (Bor (List ℕ)) Fault) → IsErrAnd r (λ y. y ≡ f) → items_of next.lines.now ≡ (rows 1 now.pieces (items_of now.lines.now) rest).0 →
+      (rows 1 now.pieces (items_of now.lines.now) rest).1 ≡ Err f →
+      Gives (rows count start.pieces (items_of start.lines.now) text) (items_of next.lines.now) r
+  going_fault f r y is e =
+      gives_fault _ (items_of next.lines.now) f r y
+      (g.left ∙ all_fault (count - k) start.pieces (items_of now.lines.now) rest some (items_of next.lines.now)
+      (is ∙ ap (λ (o : Outcome (List ℕ)). o.0) pieces_are) f (ap (λ (o : Outcome (List ℕ)). o.1) (sym pieces_are) ∙ e))
+
+pub going_end : (start : Reader) (count : ℕ) (text : List ℕ) (now : Reader) (rest : List ℕ) (k : ℕ) → Going start count text now rest k → count ≤ k →
+    rows count start.pieces (items_of start.lines.now) text ≡ (items_of now.lines.now, Ok rest)
+going_end start count text now rest k g h =
+    let z : count - k ≡ 0 = omega arith in g.left ∙ rows_none (count - k) start.pieces (items_of now.lines.now) rest z

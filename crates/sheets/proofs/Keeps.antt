@@ -1,5 +1,5 @@
 -- The rules for nodes, asked of a line. Assumes nothing.
-use Rattle.std.proofs.Common.{◌≡◌, ℕ, ◌+◌, ◌<◌, ◌≤◌, Bool, true, false, not, ◌&&◌, ltb, List, length, is_some, sym, refl, ap, ◌∙◌, true≢false, arith, ltb-true, le-ltb, lt-ltb}
+use Rattle.std.proofs.Common.{◌≡◌, ℕ, ◌+◌, ◌<◌, ◌≤◌, Bool, true, false, not, ◌&&◌, ltb, List, length, is_some, sym, refl, ap, ◌∙◌, true≢false, arith, ltb-true, lt-ltb}
 use Rattle.lists.specs.declared.node_line.NodeLine.{NodeLine}
 use Rattle.diagrams.specs.declared.Node.{Node}
 use Rattle.diagrams.specs.Level.{level}
@@ -41,15 +41,9 @@ none_found N x y lo hi b = by (ltb (find N x y lo hi) (length N)) b
     by false false e = e
 
 module _ (N : List Node) (a : NodeLine) where
-  pub placed_no_level : level a.x a.y ≤ level_of N a.lo → false ≡ placed N a
-  placed_no_level h = sym (ap (λ t. t && (ltb (x_of N a.hi) a.x && not (ltb (find N a.x a.y a.lo a.hi) (length N)))) (le-ltb _ _ h))
-
   module _ (low : level_of N a.lo < level a.x a.y) where
     then_x : placed N a ≡ (ltb (x_of N a.hi) a.x && not (ltb (find N a.x a.y a.lo a.hi) (length N)))
     then_x = ap (λ t. t && (ltb (x_of N a.hi) a.x && not (ltb (find N a.x a.y a.lo a.hi) (length N)))) (lt-ltb _ _ low)
-
-    pub placed_no_x : a.x ≤ x_of N a.hi → false ≡ placed N a
-    placed_no_x h = sym (then_x ∙ ap (λ t. t && not (ltb (find N a.x a.y a.lo a.hi) (length N))) (le-ltb _ _ h))
 
     pub placed_by : x_of N a.hi < a.x → (b : Bool) → is_some (found N a.x a.y a.lo a.hi) ≡ not b → b ≡ placed N a
     placed_by h b e =

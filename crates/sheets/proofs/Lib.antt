@@ -1,8 +1,9 @@
 pub mod Fronts
+pub mod Given
 pub mod Tops
 pub mod Keeps
 pub mod Entries
-pub mod Rules
+pub mod Lent
 pub mod Steps
 pub mod Endings
 pub mod Listings

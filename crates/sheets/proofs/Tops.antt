@@ -1,14 +1,11 @@
 -- Lines 1 to 3 of a sheet, question by question. Assumes nothing.
-use Rattle.std.proofs.Common.{◌≡◌, ℕ, ◌<◌, ◌≤◌, Bool, true, false, eqb, List, length, get_or, IsErrAnd, Some, None, Ok, Err, Option, Result, sym, refl, ap, ◌∙◌, subst, arith, length-take-le, get_or-take, le-ltb, lt-ltb, eq-eqb, ne_eqb, eqb-true, MatchResult}
-use Rattle.lines.specs.declared.numbers.Fields.{Fields}
-use Rattle.lines.specs.Held.{held, Fits}
+use Rattle.std.proofs.Common.{◌≡◌, ℕ, ◌<◌, ◌≤◌, Bool, true, false, eqb, List, length, get_or, IsErrAnd, Some, None, Ok, Err, Option, Result, sym, refl, ap, ◌∙◌, subst, arith, le-ltb, lt-ltb, eq-eqb, ne_eqb, eqb-true, MatchResult}
 use Rattle.lines.specs.Reading.{cut, numbers}
-use Rattle.lists.specs.declared.node_line.NodeLine.{NodeLine}
 use Rattle.sheets.specs.declared.fault.Fault.{Fault}
 use Rattle.sheets.specs.Faults.{bad_line, other_chain}
 use Rattle.sheets.specs.Format.{head, node_names}
 use Rattle.sheets.specs.Lines.{ask, after, names, values_by, values_in, values}
-use Rattle.sheets.specs.Checks.{Top, top_by, top, line_from}
+use Rattle.sheets.specs.Checks.{Top, top_by, top}
 
 -- a question that is answered
 pub asked_yes : {A : Type 0} (t : Bool) (f : Fault) (r : Result A Fault) → t ≡ true → ask t f r ≡ r
@@ -73,22 +70,3 @@ module _ (chain : ℕ) (text : List ℕ) where
 
           pub top_ok : (rest : List ℕ) → names node_names 3 u ≡ Ok rest → top chain text ≡ made rest
           top_ok rest e = then_names ∙ ap (λ r. after r made) e
-
--- the fields of a line are the values that it holds
-pub held_at : (f : Fields) → Fits f → (count k : ℕ) (text rest : List ℕ) → values count k text ≡ Ok (held f, rest) → (i : ℕ) → i < count → get_or (held f) i 0 ≡ get_or f.values i 0
-held_at f fits count k text rest e i h =
-    let long = length-take-le f.count f.values (omega (arith, fits.few, fits.long)) in
-    get_or-take f.count f.values i 0 (omega (arith, long, values_count count k text (held f, rest) e))
-
--- four fields as a line
-abbrev pub field_line : Fields → NodeLine
-field_line f = record { x = get_or f.values 0 0; y = get_or f.values 1 0; lo = get_or f.values 2 0; hi = get_or f.values 3 0 }
-
-pub held_line : (f : Fields) → Fits f → (k : ℕ) (text rest : List ℕ) → values 4 k text ≡ Ok (held f, rest) →
-    line_from (held f) ≡ field_line f
-held_line f fits k text rest e = λ i. record {
-  x = held_at f fits 4 k text rest e 0 (omega arith) i;
-  y = held_at f fits 4 k text rest e 1 (omega arith) i;
-  lo = held_at f fits 4 k text rest e 2 (omega arith) i;
-  hi = held_at f fits 4 k text rest e 3 (omega arith) i;
-}

@@ -4,4 +4,6 @@ pub mod Lines
 pub mod Visits
 pub mod Checks
 pub mod Gives
+pub mod Own
+pub mod Reading
 pub mod Theorems

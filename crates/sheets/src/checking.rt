@@ -1,17 +1,19 @@
 // The check of a whole sheet.
-ghost use Rattle.std.specs.Prelude.{◌≡◌, ◌≤◌, List, [], length, Result};
+ghost use Rattle.std.specs.Prelude.{◌≡◌, ◌≢◌, ◌+◌, ◌<◌, ◌≤◌, true, false, List, [], length, slice_index, Result, MatchOption};
 ghost use Rattle.lists.specs.Items.{items_of, room_of};
 ghost use Rattle.lists.specs.declared.node_line.NodeLine.{NodeLine};
 ghost use Rattle.tables.specs.Rows.{rows as rows_of};
 ghost use Rattle.sheets.specs.declared.fault.Fault.{Fault};
-ghost use Rattle.sheets.specs.Checks.{off, root_of, counts, finish, checked, Outcome};
+ghost use Rattle.sheets.specs.Own.{Own};
+ghost use Rattle.sheets.specs.Checks.{root_of, counts, finish, checked, Outcome};
 
-use super::fault::Fault;
+use super::fault::{Fault, Part};
 use super::nodes::Nodes;
-use super::rows::read_rows;
+use super::reader::Reader;
 use super::top::read_top;
 use super::visit::numbered;
 use lists::{Filled, NodeLine};
+use orders::Refusal;
 use tables::Table;
 
 // A sheet that was accepted: the number of its root among its lines, and how many orders its set has.
@@ -21,39 +23,29 @@ pub struct Checked {
     pub orders: u64,
 }
 
-// The first place whose mark is not its own number, or how many there are.
-fn first_off(marks: &[u32], count: usize) -> usize
-    requires within { count ≤ length marks.now }
-    requires few { count ≤ 2046 }
-    ensures { result ≡ off count 0 marks.now }
+// The first place whose mark is not its own number, or none where each is.
+fn first_off(marks: &[u32]) -> Option<usize>
+    requires { length marks.now ≤ 2046 }
+    ensures { MatchOption result
+        (Own marks.now (length marks.now))
+        (λ i. (i < length marks.now) × (slice_index marks.now i ≢ i + 2) × Own marks.now i) }
 {
-    let mut i = 0;
-    while i < count && marks[i] == i as u32 + 2 {
-        i += 1;
-    }
-    i
+    marks
+        .iter()
+        .zip(2..2048)
+        .position(|(mark, own)| *mark != own)
 }
 
-// Whether orders is the root's count; with no nodes 0 or 1.
-fn counts(table: &Table, orders: u64) -> bool
-    ensures { result ≡ counts (rows_of table.now) orders }
+// The root's number, if orders is its count: the last node, or with no nodes 0 or 1, which orders says.
+fn root_of(table: &Table, orders: u64) -> Option<u64>
+    ensures { MatchOption result
+        (counts (rows_of table.now) orders ≡ false)
+        (λ root. (counts (rows_of table.now) orders ≡ true) × (root ≡ root_of (rows_of table.now) orders)) }
 {
-    let count = table.len();
-    if count == 0 {
-        return orders < 2;
+    match table.nodes() {
+        [] => (orders < 2).then_some(orders),
+        [.., last] => (last.orders == orders).then_some(table.len() as u64 + 1),
     }
-    table.get(count as u32 + 1).orders == orders
-}
-
-// The root's number: the last node, or what orders says where there are no nodes.
-fn root_of(table: &Table, orders: u64) -> u64
-    ensures { result ≡ root_of (rows_of table.now) orders }
-{
-    let count = table.len();
-    if count == 0 {
-        return orders;
-    }
-    count as u64 + 1
 }
 
 // After the last node line: a surplus line, then 17, then 18.
@@ -61,26 +53,18 @@ fn finish(rest: &[u8], table: &Table, orders: u64) -> Result<Checked, Fault>
     ensures { result ≡ finish (rows_of table.now) orders rest.now }
 {
     let count = table.len();
-    if rest.len() != 0 {
+    if !rest.is_empty() {
         return Err(Fault::bad_line(count as u64 + 4));
     }
-    let visit = numbered(
-        Nodes {
-            rows: table.nodes(),
-        },
-        count as u32 + 1,
-    );
-    let off = first_off(&visit.marks, count);
-    if off < count {
-        return Err(Fault::misnumbered(off as u64 + 4));
+    let nodes = Nodes {
+        rows: table.nodes(),
+    };
+    let visit = numbered(nodes, count as u32 + 1);
+    if let Some(off) = first_off(&visit.marks[..count]) {
+        return Err(Fault::new(Refusal::Misnumbered, off as u64 + 4, Part::Sheet));
     }
-    if !counts(table, orders) {
-        return Err(Fault::wrong_count());
-    }
-    Ok(Checked {
-        root: root_of(table, orders),
-        orders,
-    })
+    let root = root_of(table, orders).ok_or(Fault::new(Refusal::WrongCount, 2, Part::Sheet))?;
+    Ok(Checked { root, orders })
 }
 
 // Checks a whole sheet for a store of so many pieces over a chain. The list is emptied, and then has the lines that kept the rules.
@@ -96,8 +80,12 @@ pub fn check(
     ensures lender { lines.new.room.ghost_name ≡ lines.old.room.ghost_name }
 {
     lines.clear();
+    let mut reader = Reader {
+        pieces,
+        table: Table::new(),
+        lines,
+    };
     let top = read_top(text, chain)?;
-    let mut table = Table::new();
-    let rest = read_rows(top.rest, top.nodes, pieces, &mut table, lines)?;
-    finish(rest, &table, top.orders)
+    let rest = reader.read_rows(top.rest, top.nodes)?;
+    finish(rest, &reader.table, top.orders)
 }

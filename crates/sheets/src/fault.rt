@@ -1,8 +1,11 @@
 // What is wrong with a sheet or a book, and where.
 ghost use Rattle.std.specs.Prelude.{◌≡◌};
-ghost use Rattle.sheets.specs.Faults.{bad_line, other_chain, bad_node, misnumbered, wrong_count};
+ghost use Rattle.sheets.specs.declared.fault.Fault.{Fault};
+ghost use Rattle.sheets.specs.Faults.{bad_line};
 
 use orders::Refusal;
+use std::error::Error;
+use std::fmt;
 
 // Where a fault lies.
 #[derive(Clone, Copy, PartialEq, Eq, Debug)]
@@ -26,58 +29,45 @@ pub struct Fault {
 }
 
 impl Fault {
+    pub fn new(refusal: Refusal, line: u64, part: Part) -> Fault
+        ensures { ◌≡◌ {A = Fault} result record { refusal = refusal; line = line; part = part } }
+    {
+        Fault {
+            refusal,
+            line,
+            part,
+        }
+    }
+
     // The line has not its names or values, is missing, or is one too many.
     pub fn bad_line(line: u64) -> Fault
         ensures { result ≡ bad_line line }
     {
-        Fault {
-            refusal: Refusal::BadLine,
-            line,
-            part: Part::Line,
-        }
+        Fault::new(Refusal::BadLine, line, Part::Line)
     }
+}
 
-    // The sheet is of another chain.
-    pub fn other_chain() -> Fault
-        ensures { result ≡ other_chain }
-    {
-        Fault {
-            refusal: Refusal::OtherChain,
-            line: 2,
-            part: Part::Sheet,
-        }
-    }
-
-    // The line does not keep the rules for nodes.
-    pub fn bad_node(line: u64) -> Fault
-        ensures { result ≡ bad_node line }
-    {
-        Fault {
-            refusal: Refusal::BadNode,
-            line,
-            part: Part::Line,
-        }
-    }
-
-    // The visit does not give the line its own number.
-    pub fn misnumbered(line: u64) -> Fault
-        ensures { result ≡ misnumbered line }
-    {
-        Fault {
-            refusal: Refusal::Misnumbered,
-            line,
-            part: Part::Sheet,
-        }
-    }
-
-    // Orders is not the root's count.
-    pub fn wrong_count() -> Fault
-        ensures { result ≡ wrong_count }
-    {
-        Fault {
-            refusal: Refusal::WrongCount,
-            line: 2,
-            part: Part::Sheet,
+impl fmt::Display for Part {
+    fn fmt<W: fmt::Write>(&self, f: &mut fmt::Formatter<W>) -> fmt::Result {
+        match self {
+            Part::Line => write!(f, "line"),
+            Part::Sheet => write!(f, "sheet"),
+            Part::Store => write!(f, "store"),
+            Part::Book => write!(f, "book"),
         }
     }
 }
+
+impl fmt::Display for Fault {
+    fn fmt<W: fmt::Write>(&self, f: &mut fmt::Formatter<W>) -> fmt::Result {
+        write!(
+            f,
+            "line {} ({}): refused by {}",
+            self.line,
+            self.part,
+            self.refusal.number()
+        )
+    }
+}
+
+impl Error for Fault {}

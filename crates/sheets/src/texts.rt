@@ -50,13 +50,8 @@ fn after_nodes_orders(text: &[u8]) -> Option<&[u8]>
 pub(crate) fn after_head(text: &[u8]) -> Result<&[u8], Fault>
     ensures { MatchResult result (λ rest. names head 1 text.now ≡ Ok rest.now) (λ f. names head 1 text.now ≡ Err f) }
 {
-    let Some(names) = after_chain(text) else {
-        return Err(Fault::bad_line(1));
-    };
-    let Some(rest) = after_nodes_orders(names) else {
-        return Err(Fault::bad_line(1));
-    };
-    Ok(rest)
+    let names = after_chain(text).ok_or(Fault::bad_line(1))?;
+    after_nodes_orders(names).ok_or(Fault::bad_line(1))
 }
 
 // What follows the names of its second table, which are its line 3.
@@ -87,14 +82,22 @@ pub fn line_values(text: &[u8], line: u64, count: usize) -> Result<(Fields, &[u8
         (λ p. Fits p.0 × (values count line text.now ≡ Ok (held p.0, p.1.now)))
         (λ f. values count line text.now ≡ Err f) }
 {
-    let Some((first, rest)) = first_line(text) else {
-        return Err(Fault::bad_line(line));
-    };
-    let Some(found) = fields(first) else {
-        return Err(Fault::bad_line(line));
-    };
+    let (first, rest) = first_line(text).ok_or(Fault::bad_line(line))?;
+    let found = fields(first).ok_or(Fault::bad_line(line))?;
     if found.count != count {
         return Err(Fault::bad_line(line));
     }
     Ok((found, rest))
+}
+
+// The same as an array, where the number of values is fixed.
+pub fn line_array<const N: usize>(text: &[u8], line: u64) -> Result<([u64; N], &[u8]), Fault>
+    ensures { MatchResult result
+        (λ p. values N line text.now ≡ Ok (p.0, p.1.now))
+        (λ f. values N line text.now ≡ Err f) }
+{
+    let (found, rest) = line_values(text, line, N)?;
+    let mut values = [0; N];
+    values.copy_from_slice(&found.values[..N]);
+    Ok((values, rest))
 }

@@ -2,11 +2,10 @@
 ghost use Rattle.std.specs.Prelude.{◌≡◌, ◌≤◌, Ok, Err, MatchResult};
 ghost use Rattle.sheets.specs.Checks.{Top, top};
 
-use super::fault::Fault;
-use super::texts::{after_head, after_node_names, line_values};
-
-// How many nodes a sheet may have.
-const MOST_NODES: u64 = 2046;
+use super::fault::{Fault, Part};
+use super::texts::{after_head, after_node_names, line_array};
+use orders::Refusal;
+use tables::ROOM;
 
 // What the first table says, and the text after the names of the second.
 #[derive(Clone, Copy)]
@@ -23,18 +22,18 @@ pub(crate) fn read_top(text: &[u8], chain: u8) -> Result<TopLines<'_>, Fault>
         (λ f. top chain text.now ≡ Err f) }
 {
     let text = after_head(text)?;
-    let (found, text) = line_values(text, 2, 3)?;
-    let nodes = found.values[1];
-    if nodes > MOST_NODES {
+    let ([code, nodes, orders], text) = line_array::<3>(text, 2)?;
+    let nodes = nodes as usize;
+    if nodes > ROOM {
         return Err(Fault::bad_line(2));
     }
-    if found.values[0] != u64::from(chain) {
-        return Err(Fault::other_chain());
+    if code != u64::from(chain) {
+        return Err(Fault::new(Refusal::OtherChain, 2, Part::Sheet));
     }
     let rest = after_node_names(text)?;
     Ok(TopLines {
-        nodes: nodes as usize,
-        orders: found.values[2],
+        nodes,
+        orders,
         rest,
     })
 }

@@ -1,6 +1,6 @@
 use Rattle.std.proofs.Common.{length, take, ap, ◌∙◌, arith, length-take-le}
 use Rattle.sheets.specs.Visits.{marks_in}
-use Rattle.sheets.proofs.Rules.{sound_in}
+use Rattle.sheets.proofs.Lent.{sound_in}
 use Rattle.sheets.proofs.Listings.{listing_none, listing_more, listing_all, listed_node}
 use Rattle.sheets.proofs.listing.list_lines.Goals as goal
 

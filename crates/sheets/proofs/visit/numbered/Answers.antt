@@ -1,7 +1,7 @@
 use Rattle.std.proofs.Common.{suc, sym, ap, ◌∙◌, subst, arith}
 use Rattle.forms.specs.Marks.{Marks, Marked, mark}
 use Rattle.forms.proofs.Tracks.{marks_stand}
-use Rattle.sheets.proofs.Rules.{sound_in}
+use Rattle.sheets.proofs.Lent.{sound_in}
 use Rattle.sheets.proofs.visit.numbered.Goals as goal
 
 pub returns-clause-visit : goal.returns-clause-visit

@@ -3,7 +3,7 @@ use Rattle.std.proofs.lemmas.List.{get_or-set_other}
 use Rattle.forms.specs.Marks.{zeros}
 use Rattle.forms.proofs.Tracks.{zeros_set}
 use Rattle.sheets.specs.Visits.{marks_in}
-use Rattle.sheets.proofs.Rules.{node_ok}
+use Rattle.sheets.proofs.Lent.{node_ok}
 use Rattle.sheets.proofs.Steps.{pass_end, pass_marked, visit_step, given_is}
 use Rattle.sheets.proofs.numbering.Numbering.+visit.Goals as goal
 use Rattle.sheets.proofs.numbering.Numbering.+visit.Goals.{After-visit-2}
