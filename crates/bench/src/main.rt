@@ -1,7 +1,7 @@
 // Finds among 2,046 nodes: from the front, and by hash. Given the word `time`, it also says how long a find takes.
 #![tactic(auto)]
 
-ghost use Rattle.std.specs.Prelude.{◌≡◌, length};
+ghost use Rattle.std.specs.Prelude.{◌≤◌};
 
 use diagrams::Node;
 use std::time::Instant;
@@ -12,53 +12,55 @@ mod sample;
 mod search;
 
 // How often each search runs over all nodes when it is timed.
-const LINEAR_ROUNDS: usize = 100;
+const LINEAR_ROUNDS: u32 = 100;
 
-const HASHED_ROUNDS: usize = 10000;
+const HASHED_ROUNDS: u32 = 10000;
 
 // Whether the program was given the word `time`.
 fn asked_for_time(rt: &HostRuntime) -> io::Result<bool> {
-    for word in env::args(rt)? {
-        if word.as_str() == "time" {
-            return Ok(true);
-        }
-    }
-    Ok(false)
+    Ok(env::args(rt)?.any(|word| word.as_str() == "time"))
 }
 
-// Says how many nanoseconds each of the two searches takes for a find.
-fn time(rt: &HostRuntime, table: &Table, nodes: &[Node], shift: u32) -> io::Result<()>
-    requires { length nodes.now ≡ 2046 }
+// Says how many nanoseconds a search takes for a find.
+fn time_one<F: Fn(Node) -> Option<u32>>(
+    rt: &HostRuntime,
+    name: &str,
+    nodes: &[Node],
+    rounds: u32,
+    shift: u32,
+    find: F,
+) -> io::Result<()>
+    requires few { rounds ≤ 10000 }
+    requires callable { F.IsAlwaysCallable find }
 {
     let start = Instant::now(rt)?;
-    let hits = search::linear_hits(nodes, LINEAR_ROUNDS, shift);
-    let took = start.elapsed(rt)?.as_secs_f64() * 1e9 / 204600.0;
-    println!(rt; "linear: {took} ns a find, {hits} of 204600 hit")?;
-    let start = Instant::now(rt)?;
-    let hits = search::hashed_hits(table, nodes, HASHED_ROUNDS, shift);
-    let took = start.elapsed(rt)?.as_secs_f64() * 1e9 / 20460000.0;
-    println!(rt; "hashed: {took} ns a find, {hits} of 20460000 hit")
+    let hits = search::hits(nodes, rounds, shift, find);
+    let finds = rounds * ROOM as u32;
+    let took = start.elapsed(rt)?.as_secs_f64() * 1e9 / f64::from(finds);
+    println!(rt; "{name}: {took} ns a find, {hits} of {finds} hit")
+}
+
+// Says it of both searches.
+fn time(rt: &HostRuntime, table: &Table, shift: u32) -> io::Result<()> {
+    let nodes = table.nodes();
+    time_one(rt, "linear", nodes, LINEAR_ROUNDS, shift, |node| {
+        search::linear(table, node)
+    })?;
+    time_one(rt, "hashed", nodes, HASHED_ROUNDS, shift, |node| {
+        search::hashed(table, node)
+    })
 }
 
 fn main(rt: HostRuntime) -> io::Result<()> {
     let mut table = Table::new();
     sample::fill(&mut table);
-    let blank = Node {
-        x: 0,
-        y: 0,
-        lo: 0,
-        hi: 0,
-        orders: 0,
-    };
-    let mut nodes = [blank; ROOM];
-    sample::copy(&table, &mut nodes);
     let len = table.len();
-    let finds = 2 * nodes.len();
-    let agreed = search::agreed(&table, &nodes);
+    let finds = 2 * len;
+    let agreed = search::agreed(&table);
     println!(rt; "{len} nodes; {agreed} of {finds} finds agree")?;
     if asked_for_time(&rt)? {
-        time(&rt, &table, &nodes, 0)?;
-        time(&rt, &table, &nodes, 2048)?;
+        time(&rt, &table, 0)?;
+        time(&rt, &table, 2048)?;
     }
     Ok(())
 }

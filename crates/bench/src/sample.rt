@@ -1,9 +1,9 @@
 // A table of nodes that look random, the same at each run.
-ghost use Rattle.std.specs.Prelude.{◌+◌, ◌<◌, ◌≤◌, length};
+ghost use Rattle.std.specs.Prelude.{◌<◌, ◌≤◌};
 ghost use Rattle.diagrams.specs.Table.{Exists};
 ghost use Rattle.tables.specs.Rows.{rows};
 
-use diagrams::{Node, level};
+use diagrams::level;
 use tables::{ROOM, Table};
 
 // How many nodes are tried: many of them break a rule for nodes.
@@ -42,17 +42,15 @@ fn add(table: &mut Table, x: u8, y: u8, lo: u32, hi: u32)
 {
     let low = table.get(lo);
     let high = table.get(hi);
-    if level(low.x, low.y) < level(x, y) {
-        if high.x < x {
-            let _ = table.node(ROOM, x, y, lo, hi);
-        }
+    if level(low.x, low.y) < level(x, y) && high.x < x {
+        let _ = table.node(ROOM, x, y, lo, hi);
     }
 }
 
 // Tries one more node.
 fn attempt(table: &mut Table, dice: &mut Dice) {
     let x = dice.below(15) as u8 + 2;
-    let y = dice.below(x as u64 - 1) as u8 + 1;
+    let y = dice.below(u64::from(x) - 1) as u8 + 1;
     let numbers = table.len() as u64 + 2;
     let lo = dice.below(numbers) as u32;
     let hi = dice.below(numbers.min(EARLY)) as u32;
@@ -64,17 +62,5 @@ pub fn fill(table: &mut Table) {
     let mut dice = Dice { seed: 1 };
     for _ in 0..TRIES {
         attempt(table, &mut dice);
-    }
-}
-
-// The nodes of a table, beside it.
-pub fn copy(table: &Table, nodes: &mut [Node])
-    requires { length nodes.old ≤ 2046 }
-{
-    for i in 0..nodes.len() {
-        let number = i as u32 + 2;
-        if table.exists(number) {
-            nodes[i] = table.get(number);
-        }
     }
 }

@@ -5,7 +5,7 @@ use caches::{Blank, Cache, Slots};
 use orders::{Chain, Order, Refusal, Rotation, Swap};
 use std::process::Abort;
 use std::test::Fail;
-use store::{Found, Handle, Plan, Store};
+use store::{Handle, Plan, Store};
 
 // A plan in season 7 with mark 5.
 fn plan(pieces: u64, capacity: u64) -> Result<Plan, Fail> {
@@ -18,11 +18,8 @@ fn order(a: u8, b: u8, c: u8) -> Result<Order, Fail> {
 }
 
 // Whether a call is declined by the refusal with this number.
-fn is_declined(res: Result<Found, Refusal>, number: u8) -> bool {
-    match res {
-        Ok(_) => false,
-        Err(refusal) => refusal.number() == number,
-    }
+fn is_declined<T: Drop>(res: Result<T, Refusal>, number: u8) -> bool {
+    res.is_err_and(|refusal| refusal.number() == number)
 }
 
 // The set and one order more.
@@ -144,13 +141,8 @@ fn the_number_of_an_order_fetches_it(rt: HostRuntime) -> Result<(), Fail> {
     let six = all_six(&mut store)?;
     assert!(rt; store.order_at(six, 4)? == order(3, 2, 1)?);
     assert!(rt; store.place_of(six, order(3, 2, 1)?)? == Some(4));
-    match store.order_at(six, 6) {
-        Ok(_) => Err(Fail::new("there is a number 6")),
-        Err(refusal) => {
-            assert!(rt; refusal.number() == 12);
-            Ok(())
-        },
-    }
+    assert!(rt; is_declined(store.order_at(six, 6), 12));
+    Ok(())
 }
 
 #[test]
@@ -275,13 +267,8 @@ fn a_sweep_with_empty_pegs_leaves_nothing(rt: HostRuntime) -> Result<(), Fail> {
 fn the_last_season_is_not_swept(rt: HostRuntime) -> Result<(), Fail> {
     let last = Plan::new(3, 9, u32::MAX, 0)?;
     let mut store = Store::begin(last, Swap, Blank);
-    match store.sweep() {
-        Ok(_) => Err(Fail::new("swept")),
-        Err(refusal) => {
-            assert!(rt; refusal.number() == 11);
-            Ok(())
-        },
-    }
+    assert!(rt; is_declined(store.sweep(), 11));
+    Ok(())
 }
 
 #[test]
