@@ -15,7 +15,7 @@ use Rattle.sheets.specs.Faults.{bad_node}
 use Rattle.sheets.specs.Lines.{ask, after, values}
 use Rattle.sheets.specs.Checks.{grown, tabled_on, tabled, paired, earlier, placed, keeps, line_from, row_by, row, Outcome, rows_by, rows}
 use Rattle.sheets.specs.Gives.{Gives}
-use Rattle.sheets.specs.declared.rules.Branch.{Branch}
+use Rattle.diagrams.specs.declared.Branch.{Branch}
 use Rattle.sheets.specs.declared.reader.Reader.{Reader}
 use Rattle.sheets.specs.Reading.{branch_line, Wide, Stays}
 use Rattle.sheets.proofs.Keeps.{and_both, askable}

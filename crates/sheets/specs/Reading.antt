@@ -2,7 +2,7 @@
 use Rattle.std.specs.Prelude.{◌≡◌, ◌^◌, ◌<◌, length}
 use Rattle.lists.specs.declared.node_line.NodeLine.{NodeLine}
 use Rattle.lists.specs.Items.{room_of}
-use Rattle.sheets.specs.declared.rules.Branch.{Branch}
+use Rattle.diagrams.specs.declared.Branch.{Branch}
 use Rattle.sheets.specs.declared.reader.Reader.{Reader}
 
 -- the line that says these values

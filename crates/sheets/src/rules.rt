@@ -4,29 +4,15 @@ ghost use Rattle.tables.specs.Rows.{rows as rows_of};
 ghost use Rattle.sheets.specs.Checks.{paired, earlier, placed, Askable, keeps};
 ghost use Rattle.sheets.specs.Reading.{branch_line, Wide};
 
-use diagrams::level;
+use diagrams::{Branch, level};
 use lists::NodeLine;
 use tables::Table;
-
-// The four values of a node.
-#[derive(Clone, Copy)]
-pub(crate) struct Branch {
-    pub x: u8,
-    pub y: u8,
-    pub lo: u32,
-    pub hi: u32,
-}
 
 // The values of a line as those of a node, unless one is too large for it.
 fn narrow(line: NodeLine) -> Option<Branch>
     ensures { MatchOption result (Wide line) (λ b. branch_line b ≡ line) }
 {
-    Some(Branch {
-        x: u8::try_from(line.x).ok()?,
-        y: u8::try_from(line.y).ok()?,
-        lo: u32::try_from(line.lo).ok()?,
-        hi: u32::try_from(line.hi).ok()?,
-    })
+    Branch::try_from(line).ok()
 }
 
 // Whether x and y are a pair of pieces.
@@ -50,9 +36,7 @@ fn placed(table: &Table, branch: Branch) -> bool
 {
     table.level_of(branch.lo) < level(branch.x, branch.y)
         && table.get(branch.hi).x < branch.x
-        && table
-            .find(branch.x, branch.y, branch.lo, branch.hi)
-            .is_none()
+        && table.find(branch).is_none()
 }
 
 // What a line says of its node, if it keeps the rules after those of the table.

@@ -7,6 +7,7 @@ use super::plan::Plan;
 use caches::Cache;
 use engine::Engine;
 use orders::Chain;
+use sweeps::PEGS;
 
 mod begin;
 mod nodes;
@@ -15,9 +16,6 @@ mod questions;
 mod reading;
 mod sets;
 mod sweeping;
-
-// How many pegs a store has.
-pub const PEGS: usize = 64;
 
 // A store over a chain and a cache, both of which it owns. A peg has the number of the set that is held on it.
 #[derive(Drop)]

@@ -1,7 +1,6 @@
 // Sets of small films, worked out by the code.
-ghost use Rattle.store.specs.Does.{Kept};
-
 use caches::{Blank, Cache, Slots};
+use lists::NodeLine;
 use orders::{Chain, Order, Refusal, Rotation, Swap};
 use std::process::Abort;
 use std::test::Fail;
@@ -17,6 +16,11 @@ fn order(a: u8, b: u8, c: u8) -> Result<Order, Fail> {
     Ok(Order::from_row([a, b, c, 0, 0, 0, 0, 0, 0, 0, 0, 0, 0, 0, 0, 0], 3)?)
 }
 
+// A node's four values.
+fn line(x: u64, y: u64, lo: u64, hi: u64) -> NodeLine {
+    NodeLine { x, y, lo, hi }
+}
+
 // Whether a call is declined by the refusal with this number.
 fn is_declined<T: Drop>(res: Result<T, Refusal>, number: u8) -> bool {
     res.is_err_and(|refusal| refusal.number() == number)
@@ -28,40 +32,34 @@ fn and_order<G: Chain, C: Cache>(
     set: Handle,
     order: Order,
 ) -> Result<Handle, Fail>
-    requires { Kept G.table C.recalls store.old }
-    ensures { Kept G.table C.recalls store.new }
 {
     let single = store.single(order)?;
-    let joined = store.join(set, single.handle)?;
-    Ok(joined.handle)
+    let joined = store.join(set, single.set)?;
+    Ok(joined.set)
 }
 
 // All orders of three pieces.
 fn all_six<G: Chain, C: Cache>(store: &mut Store<G, C>) -> Result<Handle, Fail>
-    requires { Kept G.table C.recalls store.old }
-    ensures { Kept G.table C.recalls store.new }
 {
     let two = store.standing_set();
     let two = and_order(store, two, order(2, 1, 3)?)?;
     let three = and_order(store, two, order(1, 3, 2)?)?;
     let five = store.follow(three, three)?;
-    let six = store.follow(five.handle, three)?;
-    Ok(six.handle)
+    let six = store.follow(five.set, three)?;
+    Ok(six.set)
 }
 
 // The examples of sets, by any chain and cache.
 fn sets_are_right<G: Chain, C: Cache>(rt: &impl Abort, store: &mut Store<G, C>) -> Result<(), Fail>
-    requires { Kept G.table C.recalls store.old }
-    ensures { Kept G.table C.recalls store.new }
 {
     let six = all_six(store)?;
     assert!(rt; store.count(six)? == 6);
     let picked = store.pick(six, 3, 1)?;
-    assert!(rt; store.count(picked.handle)? == 2);
-    let rest = store.without(six, picked.handle)?;
-    assert!(rt; store.count(rest.handle)? == 4);
-    let both = store.meet(rest.handle, picked.handle)?;
-    assert!(rt; both.handle == store.empty_set());
+    assert!(rt; store.count(picked.set)? == 2);
+    let rest = store.without(six, picked.set)?;
+    assert!(rt; store.count(rest.set)? == 4);
+    let both = store.meet(rest.set, picked.set)?;
+    assert!(rt; both.set == store.empty_set());
     Ok(())
 }
 
@@ -80,7 +78,7 @@ fn single_needs_room_for_two_nodes(rt: HostRuntime) -> Result<(), Fail> {
     let mut store = Store::begin(plan(3, 2)?, Swap, Blank);
     let found = store.single(order(3, 1, 2)?)?;
     assert!(rt;
-        found.handle
+        found.set
             == Handle {
                 season: 7,
                 number: 3,
@@ -105,8 +103,8 @@ fn a_swap_carried_by_itself_is_the_standing_order(rt: HostRuntime) -> Result<(),
     let mut store = Store::begin(plan(2, 9)?, Rotation, Slots::new());
     let swap = order(2, 1, 3)?;
     let set = store.single(swap)?;
-    let carried = store.carry(set.handle, swap)?;
-    assert!(rt; carried.handle == store.standing_set());
+    let carried = store.carry(set.set, swap)?;
+    assert!(rt; carried.set == store.standing_set());
     Ok(())
 }
 
@@ -129,7 +127,7 @@ fn a_carried_upper_branch_is_joined_and_not_put_over_the_lower(
     let carried = store.carry(set, order(2, 1, 3)?)?;
     let due = and_order(&mut store, none, order(2, 3, 1)?)?;
     let due = and_order(&mut store, due, order(3, 1, 2)?)?;
-    assert!(rt; carried.handle == due);
+    assert!(rt; carried.set == due);
     let root = store.node(due.number)?;
     assert!(rt; root.x == 3 && root.y == 1);
     Ok(())
@@ -175,7 +173,7 @@ fn a_sure_cache_answers_the_same_call_with_one_entry(rt: HostRuntime) -> Result<
     let first = store.pick(six, 3, 1)?;
     let second = store.pick(six, 3, 1)?;
     assert!(rt; first.entries > 1 && second.entries == 1);
-    assert!(rt; first.handle == second.handle);
+    assert!(rt; first.set == second.set);
     Ok(())
 }
 
@@ -192,10 +190,10 @@ fn with_a_blank_cache_the_entries_are_the_bare_rules(rt: HostRuntime) -> Result<
 #[test]
 fn a_node_of_four_values_is_found_or_added(rt: HostRuntime) -> Result<(), Fail> {
     let mut store = Store::begin(plan(3, 99)?, Swap, Blank);
-    let two = store.add(2, 1, 1, 1)?;
-    assert!(rt; store.add(2, 1, 1, 1)? == two && store.len() == 1);
-    assert!(rt; store.add(258, 1, 1, 1).is_err() && store.add(4, 1, 1, 1).is_err());
-    assert!(rt; store.add(2, 1, 2, 1).is_err() && store.add(3, 1, 1, 0).is_err());
+    let two = store.add(line(2, 1, 1, 1))?;
+    assert!(rt; store.add(line(2, 1, 1, 1))? == two && store.len() == 1);
+    assert!(rt; store.add(line(258, 1, 1, 1)).is_err() && store.add(line(4, 1, 1, 1)).is_err());
+    assert!(rt; store.add(line(2, 1, 2, 1)).is_err() && store.add(line(3, 1, 1, 0)).is_err());
     assert!(rt; store.len() == 1);
     Ok(())
 }
@@ -206,8 +204,6 @@ fn swept_on_peg<G: Chain, C: Cache>(
     set: Handle,
     peg: u64,
 ) -> Result<(Handle, usize), Refusal>
-    requires { Kept G.table C.recalls store.old }
-    ensures { Kept G.table C.recalls store.new }
 {
     let hold = store.hold(set, peg)?;
     let left = store.sweep();
@@ -219,8 +215,6 @@ fn swept_on_peg<G: Chain, C: Cache>(
 
 // Whether a set cannot be put on a peg, by the refusal with this number.
 fn not_held<G: Chain, C: Cache>(store: &mut Store<G, C>, set: Handle, peg: u64, number: u8) -> bool
-    requires { Kept G.table C.recalls store.old }
-    ensures { Kept G.table C.recalls store.new }
 {
     match store.hold(set, peg) {
         Ok(hold) => {
@@ -236,7 +230,7 @@ fn a_held_set_is_the_same_set_after_a_sweep(rt: HostRuntime) -> Result<(), Fail>
     let mut store = Store::begin(plan(3, 99)?, Swap, Slots::new());
     let six = all_six(&mut store)?;
     let picked = store.pick(six, 3, 1)?;
-    let (kept, left) = swept_on_peg(&mut store, picked.handle, 63)?;
+    let (kept, left) = swept_on_peg(&mut store, picked.set, 63)?;
     assert!(rt; left == 2 && store.len() == 2);
     assert!(rt;
         kept == Handle {
@@ -248,7 +242,7 @@ fn a_held_set_is_the_same_set_after_a_sweep(rt: HostRuntime) -> Result<(), Fail>
     assert!(rt;
         store.order_at(kept, 0)? == order(3, 2, 1)? || store.order_at(kept, 1)? == order(3, 2, 1)?
     );
-    assert!(rt; !store.accepts(picked.handle));
+    assert!(rt; !store.accepts(picked.set));
     let again = all_six(&mut store)?;
     assert!(rt; store.count(again)? == 6);
     Ok(())

@@ -1,19 +1,12 @@
 -- The buckets that nodes fall into, and what an index of a list of nodes holds. Assumes nothing.
-use Rattle.std.specs.Prelude.{◌≡◌, ℕ, zero, suc, ◌+◌, ◌*◌, ◌/◌, ◌%◌, ◌^◌, ◌<◌, cond, List, length, ◌==◌, bit_or, bit_xor, slice_index_or, Some, None, Option}
+use Rattle.std.specs.Prelude.{◌≡◌, ℕ, zero, suc, ◌+◌, ◌*◌, ◌%◌, ◌<◌, cond, List, length, ◌==◌, slice_index_or, Some, None, Option}
+use Rattle.hashing.specs.Stirring.{stirred}
 use Rattle.diagrams.specs.declared.Node.{Node}
 use Rattle.diagrams.specs.Table.{at}
 
--- 64 bits turned by 29 to the left
-unfoldable pub turned : ℕ → ℕ
-turned h = bit_or ((h * 2 ^ 29) % 2 ^ 64) (h / 2 ^ 35)
-
--- one more value stirred into a hash
-unfoldable pub stirred : ℕ → ℕ → ℕ
-stirred h v = turned ((bit_xor h v * 11400714819323198485) % 2 ^ 64)
-
 -- the bucket of four values
 unfoldable pub bucket : ℕ → ℕ → ℕ → ℕ → ℕ
-bucket x y lo hi = stirred (stirred ((x * 256 + y) * 4294967296) lo) hi % 4096
+bucket x y lo hi = stirred 29 (stirred 29 ((x * 256 + y) * 4294967296) lo) hi % 4096
 
 -- the bucket of the node at i
 abbrev pub falls : List Node → ℕ → ℕ

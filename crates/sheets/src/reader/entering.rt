@@ -8,8 +8,9 @@ ghost use Rattle.sheets.specs.Reading.{branch_line, Stays};
 
 use super::Reader;
 use crate::fault::{Fault, Part};
-use crate::rules::{Branch, branch_of};
+use crate::rules::branch_of;
 use crate::texts::line_array;
+use diagrams::Branch;
 use lists::NodeLine;
 use orders::Refusal;
 use tables::ROOM;
@@ -23,8 +24,7 @@ impl Reader<'_, '_> {
         ensures items { items_of self.new.lines.now ≡ items_of self.old.lines.now ++ (line ∷ []) }
         ensures stays { Stays self.old self.new }
     {
-        let Branch { x, y, lo, hi } = branch;
-        let _ = self.table.node(ROOM, x, y, lo, hi);
+        let _ = self.table.node(ROOM, branch);
         let _ = self.lines.add(line);
     }
 

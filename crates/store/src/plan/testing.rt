@@ -17,9 +17,7 @@ impl Plan {
         if capacity == 0 {
             return Err(Refusal::BadCapacity);
         }
-        let Some(room) = Room::new(capacity as usize) else {
-            return Err(Refusal::BadCapacity);
-        };
+        let room = Room::new(capacity as usize).ok_or(Refusal::BadCapacity)?;
         Ok(Plan {
             pieces: pieces as u8,
             room,

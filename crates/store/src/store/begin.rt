@@ -4,12 +4,13 @@ ghost use Rattle.store.specs.Views.{view};
 ghost use Rattle.store.specs.Steps.{handle_of};
 ghost use Rattle.store.specs.Does.{Begun};
 
-use super::{PEGS, Store};
+use super::Store;
 use crate::plan::Plan;
 use crate::shapes::Handle;
 use caches::Cache;
 use engine::Engine;
 use orders::Chain;
+use sweeps::PEGS;
 
 impl<G: Chain, C: Cache> Store<G, C> {
     // A store with no node, from a tested plan, a chain and a cache. The cache is emptied first.

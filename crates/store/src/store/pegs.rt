@@ -6,11 +6,12 @@ ghost use Rattle.store.specs.Steps.{holds, releases, released, handle_held};
 ghost use Rattle.store.specs.Does.{Does, hold_reply, release_reply};
 ghost use Rattle.store.specs.Holding.{Holds};
 
-use super::{PEGS, Store};
+use super::Store;
 use crate::hold::{Hold, Returned};
 use crate::shapes::Handle;
 use caches::Cache;
 use orders::{Chain, Refusal};
+use sweeps::PEGS;
 
 impl<G: Chain, C: Cache> Store<G, C> {
     // Whether something can be put on a peg: there is such a peg, and it is empty.
