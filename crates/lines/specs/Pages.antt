@@ -1,13 +1,13 @@
 -- What is put on a lent page. Assumes nothing.
-use Rattle.std.specs.Prelude.{◌≡◌, ℕ, ◌+◌, ◌<◌, ◌≤◌, List, ◌++◌, length, take, drop, Ok, Err, Result}
+use Rattle.std.specs.Prelude.{◌≡◌, ℕ, ◌+◌, ◌<◌, ◌≤◌, List, length, Ok, Err, Result}
 use Rattle.orders.specs.declared.refusal.Refusal.{Refusal}
 use Rattle.lists.specs.declared.filled.Filled.{Filled}
-use Rattle.lists.specs.Items.{items_of, room_of, Extended}
+use Rattle.lists.specs.Items.{items_of, room_of, laid, Extended}
 use Rattle.orders.specs.declared.refusal.Refusal.TheVariants.{ShortPage}
 
 -- the page with the bytes in place of what stood from `at` on; the rest of it stays
 abbrev pub put : List ℕ → ℕ → List ℕ → List ℕ
-put page at bytes = take at page ++ (bytes ++ drop (at + length bytes) page)
+put page at bytes = laid page at bytes
 
 -- the bytes stand on the page from `at` on, and they end at `end`
 pub record Stands (before after : List ℕ) (at : ℕ) (bytes : List ℕ) (end : ℕ) : Type 0 where

@@ -1,10 +1,11 @@
 // A sheet put on a lent page.
-ghost use Rattle.std.specs.Prelude.{◌≡◌, ◌+◌, ◌*◌, ◌≤◌, length};
-ghost use Rattle.lines.specs.Pages.{put, Put};
+ghost use Rattle.std.specs.Prelude.{◌≡◌, ◌+◌, ◌*◌, ◌<◌, ◌≤◌, length, MatchResult};
+ghost use Rattle.lists.specs.Items.{items_of, room_of, Extended};
+ghost use Rattle.lines.specs.Pages.{Put};
 ghost use Rattle.sheets.specs.Format.{node_lines, sheet_bytes};
 
 use lines::{line_len, put_bytes, put_line};
-use lists::NodeLine;
+use lists::{Filled, NodeLine};
 use orders::Refusal;
 
 // The names of a sheet's first table, its line 1.
@@ -25,19 +26,17 @@ fn rows_len(lines: &[NodeLine]) -> usize
     }
 }
 
-// Writes the lines of nodes from `at` on, and answers where they end.
-fn put_rows(page: &mut [u8], at: usize, lines: &[NodeLine]) -> usize
-    requires { at + length (node_lines lines.now) ≤ length page.old }
-    ensures end { result ≡ at + length (node_lines lines.now) }
-    ensures page { page.new ≡ put page.old at (node_lines lines.now) }
+// Writes the lines of nodes.
+fn put_rows(page: &mut Filled<u8>, lines: &[NodeLine]) -> Result<(), Refusal>
+    ensures answer { MatchResult result
+        (λ _. Extended page.old page.new (node_lines lines.now))
+        (λ _. length (room_of page.old) < length (items_of page.old) + length (node_lines lines.now)) }
+    ensures lender { page.new.room.ghost_name ≡ page.old.room.ghost_name }
 {
-    match lines {
-        [] => at,
-        [first, rest @ ..] => match put_line(page, at, &[first.x, first.y, first.lo, first.hi]) {
-            Ok(next) => put_rows(page, next, rest),
-            Err(_) => at,
-        },
+    for line in lines {
+        put_line(page, &<[u64; 4]>::from(*line))?;
     }
+    Ok(())
 }
 
 // Writes the sheet of a chain's set at the start of the page, from its count of orders and its lines, and answers where it ends. Where the
@@ -55,8 +54,10 @@ pub fn write_sheet(
     if page.len() < HEAD.len() + line_len(&counts) + NODE_NAMES.len() + rows_len(lines) {
         return Err(Refusal::ShortPage);
     }
-    let at = put_bytes(page, 0, HEAD)?;
-    let at = put_line(page, at, &counts)?;
-    let at = put_bytes(page, at, NODE_NAMES)?;
-    Ok(put_rows(page, at, lines))
+    let mut page = Filled::new(page);
+    put_bytes(&mut page, HEAD)?;
+    put_line(&mut page, &counts)?;
+    put_bytes(&mut page, NODE_NAMES)?;
+    put_rows(&mut page, lines)?;
+    Ok(page.len())
 }

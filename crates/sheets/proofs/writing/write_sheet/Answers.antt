@@ -1,9 +1,11 @@
-use Rattle.std.proofs.Common.{◌≡◌, ◌≤◌, [], ◌∷◌, length, refl, ap, ◌∙◌, arith}
+use Rattle.std.proofs.Common.{◌≡◌, [], ◌∷◌, length, refl, ap, subst, arith, rules}
+use Rattle.lists.specs.Items.{Extended}
+use Rattle.lists.proofs.Places.{extended_then}
 use Rattle.lines.specs.Format.{line}
-use Rattle.lines.specs.Pages.{put}
-use Rattle.sheets.specs.Format.{sheet_bytes}
-use Rattle.sheets.proofs.Sheets.{length_sheet, put_sheet}
+use Rattle.sheets.specs.Format.{head, node_names, node_lines, sheet_bytes}
+use Rattle.sheets.proofs.Sheets.{length_sheet, stands_whole}
 use Rattle.sheets.proofs.writing.write_sheet.Goals as goal
+use Rattle.sheets.proofs.writing.write_sheet.Goals.{After-len}
 
 pub returns-then-page-line_len : goal.returns-then-page-line_len
 returns-then-page-line_len c =
@@ -16,22 +18,17 @@ returns-then-page-line_len c =
       page = refl;
     }
 
+-- the sheet's four parts, put one after the other
+all : (c : After-len) → Extended c.new-page.result c.put_rows.new.page (sheet_bytes c.args.chain c.args.orders c.args.lines.now)
+unfolding sheet_bytes
+all c =
+    let ls = c.args.lines.now in
+    let second = subst (λ k. Extended c.put_bytes.new.page c.put_line.new.page (line (k ∷ length ls ∷ c.args.orders ∷ []))) c.from.ensures c.in_ok-put_line.ensures.answer in
+    extended_then _ _ _ head _ c.in_ok-put_bytes.ensures.answer
+    (extended_then _ _ _ _ _ second
+    (extended_then _ _ _ node_names (node_lines ls) c.in_ok-put_bytes-2.ensures.answer c.in_ok-put_rows.ensures.answer))
+
 pub returns : goal.returns
 returns c =
-    let ls = c.args.lines.now in
-    let same : line (c.from.result ∷ length ls ∷ c.args.orders ∷ []) ≡ line (c.args.chain ∷ length ls ∷ c.args.orders ∷ []) =
-    ap (λ k. line (k ∷ length ls ∷ c.args.orders ∷ [])) c.from.ensures in
-    let is = ap length same in
-    let size = length_sheet c.args.chain c.args.orders ls in
-    let one = c.in_ok-at.ensures in
-    let two = c.in_ok-at-2.ensures in
-    let three = c.in_ok-at-3.ensures in
-    let room : length (sheet_bytes c.args.chain c.args.orders ls) ≤ length c.args.page.now =
-    omega (arith, size, is, c.line_len.ensures.bytes, c.rows_len.ensures.bytes, c.if-page-line_len.false) in
-    record {
-      room = omega arith;
-      ends = omega (arith, size, is, one.ends, two.ends, three.ends, c.put_rows.ensures.end);
-      page = put_sheet c.args.chain c.args.orders ls c.args.page.now c.put_bytes.new.page c.put_line.new.page c.put_bytes-2.new.page c.put_rows.new.page
-          c.in_ok-at.at c.in_ok-at-2.at c.in_ok-at-3.at room one.ends (omega (arith, is, two.ends)) three.ends
-          one.page (two.page ∙ ap (put c.put_bytes.new.page c.in_ok-at.at) same) three.page c.put_rows.ensures.page;
-    }
+    stands_whole _ _ c.new-page.result c.put_rows.new.page _ _ c.new-page.ensures.items c.new-page.ensures.room
+    (all (goal.at.returns c).After-len) c.len.ensures (search rules)
