@@ -5,11 +5,12 @@ ghost use Rattle.books.specs.Reading.{Outcome, rows, read};
 ghost use Rattle.books.specs.Gives.{Gives, Kept};
 ghost use Rattle.books.specs.Exact.{Exact};
 
-use super::search::FIRST_LINE;
 use super::top::{Book, read_top};
 use lines::order_of;
 use lists::Filled;
-use sheets::{Fault, Part, line_values};
+use sheets::{FIRST_LINE, Fault, Part, line_values};
+
+// A book and its list stay two parameters: together they would have no fact of their own, and each clause would name the list through two references.
 
 // One order: 14, 3, then 7. Its code goes into the list.
 fn read_order<'a>(text: &'a [u8], book: Book, list: &mut Filled<u64>) -> Result<&'a [u8], Fault>

@@ -1,4 +1,4 @@
-// The two lines of names in a book.
+// The two lines of names in a book, taken apart by patterns of bytes, a rule of this project.
 ghost use Rattle.std.specs.Prelude.{◌≡◌, Ok, Err, MatchResult};
 ghost use Rattle.sheets.specs.Lines.{names};
 ghost use Rattle.books.specs.Format.{head, order_name};

@@ -4,9 +4,7 @@ ghost use Rattle.books.specs.Search.{OnLine};
 
 use lists::Filled;
 use orders::Order;
-
-// The line of the first order.
-pub(crate) const FIRST_LINE: u64 = 4;
+use sheets::FIRST_LINE;
 
 // A line of the book that has the order, or none exactly where no line has it.
 pub fn line_of(list: &Filled<u64>, order: Order) -> Option<u64>

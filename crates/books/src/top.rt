@@ -6,7 +6,7 @@ use super::names::{after_head, after_order_name};
 use orders::Refusal;
 use sheets::{Fault, Part, line_array};
 
-// What a book says of its orders: how many pieces they move, and the chain that is to work them.
+// What a book says of its orders: how many pieces they move, and the chain that is to work them, by the code that the format fixes for it.
 #[derive(Clone, Copy, PartialEq, Eq, Debug)]
 pub struct Book {
     pub pieces: u8,

@@ -13,20 +13,15 @@ mod examples {
     fn refused(bytes: &[u8], number: u8, line: u64, part: Part) -> bool {
         let mut room = [0; 2];
         let mut list = Filled::new(&mut room);
-        match read_book(bytes, &mut list) {
-            Ok(_) => false,
-            Err(fault) => fault.refusal.number() == number
-                && fault.line == line
-                && fault.part == part,
-        }
+        read_book(bytes, &mut list).is_err_and(|fault| {
+            fault.refusal.number() == number && fault.line == line && fault.part == part
+        })
     }
 
     // The code of a row of three.
     fn code(a: u8, b: u8, c: u8) -> Result<u64, Fail> {
-        match Order::from_row([a, b, c, 0, 0, 0, 0, 0, 0, 0, 0, 0, 0, 0, 0, 0], 3) {
-            Ok(order) => Ok(order.code()),
-            Err(_) => Err(Fail::new("refused")),
-        }
+        let order = Order::from_row([a, b, c, 0, 0, 0, 0, 0, 0, 0, 0, 0, 0, 0, 0, 0], 3)?;
+        Ok(order.code())
     }
 
     #[test]

@@ -10,7 +10,7 @@ use super::writing::BLANK;
 use caches::Cache;
 use lists::{Filled, NodeLine};
 use orders::Chain;
-use sheets::{Fault, Part, check, number_of};
+use sheets::{FIRST_LINE, Fault, Part, check, number_of};
 use store::{Handle, Store};
 use tables::ROOM;
 
@@ -28,7 +28,7 @@ fn enter<G: Chain, C: Cache>(
     ensures lender { numbers.new.room.ghost_name ≡ numbers.old.room.ghost_name }
 {
     for line in lines {
-        let number = numbers.len() as u64 + 4;
+        let number = numbers.len() as u64 + FIRST_LINE;
         let lo = number_of(numbers.items(), line.lo);
         let hi = number_of(numbers.items(), line.hi);
         let handle = store

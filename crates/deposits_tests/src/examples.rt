@@ -45,10 +45,9 @@ fn refused(
     part: Part,
 ) -> Result<bool, Fail> {
     let mut store = Store::begin(plan(pieces, capacity)?, Swap, Blank);
-    Ok(match read(&mut store, text) {
-        Ok(_) => false,
-        Err(fault) => fault.refusal.number() == number && fault.line == line && fault.part == part,
-    })
+    Ok(read(&mut store, text).is_err_and(|fault| {
+        fault.refusal.number() == number && fault.line == line && fault.part == part
+    }))
 }
 
 #[test]
@@ -75,10 +74,7 @@ fn a_short_page_is_left_as_it_was(rt: HostRuntime) -> Result<(), Fail> {
     let mut store = Store::begin(plan(3, 20)?, Swap, Blank);
     let six = all_six(&mut store)?;
     let mut page = [7; 58];
-    match write(&store, six, &mut page) {
-        Ok(_) => return Err(Fail::new("written")),
-        Err(refusal) => assert!(rt; refusal.number() == 13),
-    }
+    assert!(rt; write(&store, six, &mut page).is_err_and(|refusal| refusal.number() == 13));
     assert!(rt; page[0] == 7);
     Ok(())
 }

@@ -10,6 +10,7 @@ ghost use Rattle.sheets.specs.Checks.{root_of, counts, finish, checked, Outcome}
 use super::fault::{Fault, Part};
 use super::nodes::Nodes;
 use super::reader::Reader;
+use super::texts::FIRST_LINE;
 use super::top::read_top;
 use super::visit::numbered;
 use lists::{Filled, NodeLine};
@@ -54,14 +55,14 @@ fn finish(rest: &[u8], table: &Table, orders: u64) -> Result<Checked, Fault>
 {
     let count = table.len();
     if !rest.is_empty() {
-        return Err(Fault::bad_line(count as u64 + 4));
+        return Err(Fault::bad_line(count as u64 + FIRST_LINE));
     }
     let nodes = Nodes {
         rows: table.nodes(),
     };
     let visit = numbered(nodes, count as u32 + 1);
     if let Some(off) = first_off(&visit.marks[..count]) {
-        return Err(Fault::new(Refusal::Misnumbered, off as u64 + 4, Part::Sheet));
+        return Err(Fault::new(Refusal::Misnumbered, off as u64 + FIRST_LINE, Part::Sheet));
     }
     let root = root_of(table, orders).ok_or(Fault::new(Refusal::WrongCount, 2, Part::Sheet))?;
     Ok(Checked { root, orders })

@@ -19,7 +19,7 @@ pub use fault::{Fault, Part};
 pub use listing::{list_lines, number_of};
 pub use nodes::Nodes;
 pub use numbering::Numbering;
-pub use texts::{line_array, line_values};
+pub use texts::{FIRST_LINE, line_array, line_values};
 pub use theorems::{accepted_stands, written_stands};
 pub use visit::numbered;
 pub use writing::write_sheet;

@@ -5,7 +5,8 @@ ghost use Rattle.forms.specs.Marks.{zeros};
 use super::nodes::Nodes;
 use tables::ROOM;
 
-// A mark for each node, 0 where the visit did not come, and the nodes' numbers in its order.
+// A mark for each node, 0 where the visit did not come, and the nodes' numbers in its order. The library keeps fixed memory, so the order is an
+// array of which the first `count` are meant.
 #[derive(Clone, Copy)]
 pub struct Numbering {
     pub marks: [u32; ROOM],
@@ -33,7 +34,8 @@ impl Numbering {
         }
     }
 
-    // Numbers what `n` reaches and has no number yet: lower branch, upper branch, then the node itself. The number falls at each call.
+    // Numbers what `n` reaches and has no number yet: lower branch, upper branch, then the node itself. It calls itself over the node table, a
+    // rule of this project, and the number falls at each call.
     pub(crate) fn visit(&mut self, nodes: Nodes, n: u32)
         requires { Exists nodes.rows.now n }
         ensures is { (d : ℕ) → n < d → mark d nodes.entry.rows.now n (marks_in self.old) ≡ marks_in self.new }

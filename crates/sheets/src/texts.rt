@@ -7,6 +7,11 @@ ghost use Rattle.sheets.specs.Lines.{names, values};
 use super::fault::Fault;
 use lines::{Fields, fields, first_line};
 
+// The line of a sheet's first node, and of a book's first order.
+pub const FIRST_LINE: u64 = 4;
+
+// Lines of names are taken apart by patterns of bytes, a rule of this project.
+
 // What follows the first name and its blank.
 fn after_chain(text: &[u8]) -> Option<&[u8]>
     ensures { MatchOption result

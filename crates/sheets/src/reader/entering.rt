@@ -9,7 +9,7 @@ ghost use Rattle.sheets.specs.Reading.{branch_line, Stays};
 use super::Reader;
 use crate::fault::{Fault, Part};
 use crate::rules::branch_of;
-use crate::texts::line_array;
+use crate::texts::{FIRST_LINE, line_array};
 use diagrams::Branch;
 use lists::NodeLine;
 use orders::Refusal;
@@ -34,7 +34,7 @@ impl Reader<'_, '_> {
         ensures gives { Gives (rows 1 self.old.pieces (items_of self.old.lines.now) text.now) (items_of self.new.lines.now) result }
         ensures stays { Stays self.old self.new }
     {
-        let number = self.lines.len() as u64 + 4;
+        let number = self.lines.len() as u64 + FIRST_LINE;
         let ([x, y, lo, hi], rest) = line_array::<4>(text, number)?;
         let line = NodeLine { x, y, lo, hi };
         let branch = branch_of(&self.table, self.pieces, line).ok_or(Fault::new(
