@@ -20,7 +20,7 @@ fn read_order<'a>(text: &'a [u8], book: Book, list: &mut Filled<u64>) -> Result<
     let line = list.len() as u64 + FIRST_LINE;
     let (found, rest) = line_values(text, line, usize::from(book.pieces))?;
     let order = order_of(found).map_err(|refusal| Fault::new(refusal, line, Part::Line))?;
-    list.add(order.code())
+    list.add(order.into())
         .map_err(|refusal| Fault::new(refusal, line, Part::Book))?;
     Ok(rest)
 }

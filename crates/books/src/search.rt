@@ -10,6 +10,6 @@ use sheets::FIRST_LINE;
 pub fn line_of(list: &Filled<u64>, order: Order) -> Option<u64>
     ensures { OnLine (items_of list.now) order result }
 {
-    let place = list.find(&order.code())?;
+    let place = list.find(&order.into())?;
     Some(place as u64 + FIRST_LINE)
 }

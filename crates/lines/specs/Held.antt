@@ -1,10 +1,6 @@
 -- What the fields of a line hold. Assumes nothing.
-use Rattle.std.specs.Prelude.{◌≡◌, ℕ, ◌≤◌, cond, List, length, take, nat_lt}
+use Rattle.std.specs.Prelude.{ℕ, cond, List, take, nat_lt}
 use Rattle.lines.specs.declared.numbers.Fields.{Fields}
-
-pub record Fits (f : Fields) : Type 0 where
-  pub few : f.count ≤ 16
-  pub long : length f.values ≡ 16
 
 -- the numbers of a line
 abbrev pub held : Fields → List ℕ

@@ -1,6 +1,6 @@
 // The lines of a sheet or a book, taken off the front of its text.
 ghost use Rattle.std.specs.Prelude.{◌≡◌, ℕ, List, [], ◌∷◌, ◌++◌, Ok, Err, codes, MatchOption, MatchResult, ◌≢◌};
-ghost use Rattle.lines.specs.Held.{held, Fits};
+ghost use Rattle.lines.specs.Held.{held};
 ghost use Rattle.sheets.specs.Format.{head, node_names};
 ghost use Rattle.sheets.specs.Lines.{names, values};
 
@@ -84,7 +84,7 @@ pub(crate) fn after_node_names(text: &[u8]) -> Result<&[u8], Fault>
 // The values of the first line, if there are exactly so many, and what follows it.
 pub fn line_values(text: &[u8], line: u64, count: usize) -> Result<(Fields, &[u8]), Fault>
     ensures { MatchResult result
-        (λ p. Fits p.0 × (values count line text.now ≡ Ok (held p.0, p.1.now)))
+        (λ p. values count line text.now ≡ Ok (held p.0, p.1.now))
         (λ f. values count line text.now ≡ Err f) }
 {
     let (first, rest) = first_line(text).ok_or(Fault::bad_line(line))?;

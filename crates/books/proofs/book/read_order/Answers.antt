@@ -31,7 +31,7 @@ returns-in_err-order-clause-gives c =
     let ns = held c.in_ok-found.found in
     let rest = c.in_ok-found.rest.now in
     let number : c.len.result + 4 ≡ length cs + 4 = ap (λ n. n + 4) c.len.ensures in
-    let e : values b.pieces (length cs + 4) text ≡ Ok (ns, rest) = as_values b cs text _ _ c.from.ensures number ∙ c.in_ok-found.ensures.1 in
+    let e : values b.pieces (length cs + 4) text ≡ Ok (ns, rest) = as_values b cs text _ _ c.from.ensures number ∙ c.in_ok-found.ensures in
     let l = values_read b.pieces (length cs + 4) text ns rest e in
     let f = c.in_err-order.field-0.0 in
     let no = mapped_err c.order_of.result c.map_err.result _ c.map_err.ensures.cases f c.in_err-order.was in
@@ -51,13 +51,13 @@ returns-in_err-map_err-clause-gives c =
     let ns = held c.in_ok-found.found in
     let rest = c.in_ok-found.rest.now in
     let number : c.len.result + 4 ≡ length cs + 4 = ap (λ n. n + 4) c.len.ensures in
-    let e : values b.pieces (length cs + 4) text ≡ Ok (ns, rest) = as_values b cs text _ _ c.from.ensures number ∙ c.in_ok-found.ensures.1 in
+    let e : values b.pieces (length cs + 4) text ≡ Ok (ns, rest) = as_values b cs text _ _ c.from.ensures number ∙ c.in_ok-found.ensures in
     let o = c.in_ok-order.order in
     let w = known_ok c.order_of.result _ _ c.order_of.ensures o (mapped_ok c.order_of.result c.map_err.result _ c.map_err.ensures.cases o c.in_ok-order.was) in
     let f = c.in_err-map_err.field-0.0 in
     let no = mapped_err c.add.result c.map_err-2.result _ c.map_err-2.ensures.cases f c.in_err-map_err.was in
     let told : f ≡ record { refusal = no.0; line = c.len.result + 4; part = Book } = search rules in
-    let d = subst (Added c.args.list.now c.add.new.self c.code.result) no.1 c.add.ensures.answer in
+    let d = subst (Added c.args.list.now c.add.new.self c.into.result) no.1 c.add.ensures.answer in
     let fault : no_room (length cs + 4) ≡ f =
     sym (told ∙ ap₂ (λ (r : Refusal) (n : ℕ). record { refusal = r; line = n; part = Book }) d.number number) in
     let room = length (room_of c.args.list.now) in
@@ -74,13 +74,13 @@ returns-clause-gives c =
     let ns = held c.in_ok-found.found in
     let rest = c.in_ok-found.rest.now in
     let number : c.len.result + 4 ≡ length cs + 4 = ap (λ n. n + 4) c.len.ensures in
-    let e : values b.pieces (length cs + 4) text ≡ Ok (ns, rest) = as_values b cs text _ _ c.from.ensures number ∙ c.in_ok-found.ensures.1 in
+    let e : values b.pieces (length cs + 4) text ≡ Ok (ns, rest) = as_values b cs text _ _ c.from.ensures number ∙ c.in_ok-found.ensures in
     let o = c.in_ok-order.order in
     let w = known_ok c.order_of.result _ _ c.order_of.ensures o (mapped_ok c.order_of.result c.map_err.result _ c.map_err.ensures.cases o c.in_ok-order.was) in
-    let code = written_code ns o w ∙ sym c.code.ensures in
+    let code = written_code ns o w ∙ sym c.into.ensures in
     let place = mapped_ok c.add.result c.map_err-2.result _ c.map_err-2.ensures.cases c.in_ok-map_err.field-0 c.in_ok-map_err.was in
-    let g = subst (Added c.args.list.now c.add.new.self c.code.result) place c.add.ensures.answer in (
-      c.code.result,
+    let g = subst (Added c.args.list.now c.add.new.self c.into.result) place c.add.ensures.answer in (
+      c.into.result,
       row_ok b (length (room_of c.args.list.now)) cs text ns rest e (written_row ns o w) g.free ∙ ap (λ (n : ℕ). Ok (n, rest)) code,
       g.items,
     )

@@ -4,7 +4,7 @@ use Rattle.lines.specs.Held.{held}
 use Rattle.lines.proofs.Readings.{first_is, fields_are}
 use Rattle.sheets.specs.Lines.{values}
 use Rattle.sheets.proofs.Fronts.{values_no_line, values_no_numbers, values_ok, values_no}
-use Rattle.sheets.proofs.Given.{given_some, given_none, given_ok}
+use Rattle.sheets.proofs.Given.{given_some, given_none}
 use Rattle.sheets.proofs.Tops.{passed}
 use Rattle.sheets.proofs.texts.line_values.Goals as goal
 
@@ -40,8 +40,7 @@ returns-then-found-count c =
     let one = given_some c.first_line.result c.bad_line.result c.ok_or.result c.ok_or.ensures.value (l, rest) c.in_ok-first.was in
     let f = c.in_ok-found.found in
     let two = given_some c.fields.result c.bad_line-2.result c.ok_or-2.result c.ok_or-2.ensures.value f c.in_ok-found.was in
-    let told = given_ok c.fields.result c.bad_line-2.result c.ok_or-2.result c.ok_or-2.ensures.value _ _ c.fields.ensures f c.in_ok-found.was in
-    let long = length-take-le f.count f.values (omega (arith, told.0.few, told.0.long)) in
+    let long = length-take-le f.count f.values (omega (arith, f.few, f.long)) in
     values_no c.args.count c.args.line c.args.text.now l.now rest.now
     (sym (first_is c.args.text.now c.first_line.result c.first_line.ensures) ∙ ap lines one)
     (held f) (sym (fields_are l.now c.fields.result c.fields.ensures) ∙ ap (option_map held) two) (λ e. c.if-found-count.true (sym long ∙ e))
@@ -54,10 +53,7 @@ returns c =
     let one = given_some c.first_line.result c.bad_line.result c.ok_or.result c.ok_or.ensures.value (l, rest) c.in_ok-first.was in
     let f = c.in_ok-found.found in
     let two = given_some c.fields.result c.bad_line-2.result c.ok_or-2.result c.ok_or-2.ensures.value f c.in_ok-found.was in
-    let told = given_ok c.fields.result c.bad_line-2.result c.ok_or-2.result c.ok_or-2.ensures.value _ _ c.fields.ensures f c.in_ok-found.was in
-    let long = length-take-le f.count f.values (omega (arith, told.0.few, told.0.long)) in (
-      told.0,
-      values_ok c.args.count c.args.line c.args.text.now l.now rest.now
-          (sym (first_is c.args.text.now c.first_line.result c.first_line.ensures) ∙ ap lines one)
-          (held f) (sym (fields_are l.now c.fields.result c.fields.ensures) ∙ ap (option_map held) two) (long ∙ c.if-found-count.false),
-    )
+    let long = length-take-le f.count f.values (omega (arith, f.few, f.long)) in
+    values_ok c.args.count c.args.line c.args.text.now l.now rest.now
+    (sym (first_is c.args.text.now c.first_line.result c.first_line.ensures) ∙ ap lines one)
+    (held f) (sym (fields_are l.now c.fields.result c.fields.ensures) ∙ ap (option_map held) two) (long ∙ c.if-found-count.false)
