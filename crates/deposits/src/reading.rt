@@ -2,11 +2,9 @@
 ghost use Rattle.std.specs.Prelude.{◌≡◌, ◌+◌, ◌≤◌, length, IfOk};
 ghost use Rattle.lists.specs.Items.{items_of, room_of};
 ghost use Rattle.store.specs.Views.{view};
-ghost use Rattle.store.specs.Does.{Kept};
 ghost use Rattle.deposits.specs.Reading.{enters, Gave, reads};
 ghost use Rattle.deposits.specs.Writing.{sheet_text};
 
-use super::writing::BLANK;
 use caches::Cache;
 use lists::{Filled, NodeLine};
 use orders::Chain;
@@ -20,11 +18,9 @@ fn enter<G: Chain, C: Cache>(
     lines: &[NodeLine],
     numbers: &mut Filled<u32>,
 ) -> Result<(), Fault>
-    requires kept { Kept G.table C.recalls store.old }
     requires room { length (items_of numbers.old) + length lines.now ≤ length (room_of numbers.old) }
     requires few { length (room_of numbers.old) ≤ 2046 }
     ensures is { Gave (enters (view store.old) (items_of numbers.old) lines.now) (view store.new) (items_of numbers.new) result }
-    ensures kept { Kept G.table C.recalls store.new }
     ensures lender { numbers.new.room.ghost_name ≡ numbers.old.room.ghost_name }
 {
     for line in lines {
@@ -32,7 +28,11 @@ fn enter<G: Chain, C: Cache>(
         let lo = number_of(numbers.items(), line.lo);
         let hi = number_of(numbers.items(), line.hi);
         let handle = store
-            .add(line.x, line.y, u64::from(lo), u64::from(hi))
+            .add(NodeLine {
+                lo: u64::from(lo),
+                hi: u64::from(hi),
+                ..*line
+            })
             .map_err(|refusal| Fault::new(refusal, number, Part::Store))?;
         let _ = numbers.add(handle.number);
     }
@@ -42,14 +42,12 @@ fn enter<G: Chain, C: Cache>(
 // Checks a whole sheet, and then finds or adds its nodes in the store, line by line. Answers the set's handle, and the text is that set's own
 // sheet; or the fault: of the sheet, and then nothing has changed, or of the line whose node found no room, and then the nodes made so far stay.
 pub fn read<G: Chain, C: Cache>(store: &mut Store<G, C>, text: &[u8]) -> Result<Handle, Fault>
-    requires { Kept G.table C.recalls store.old }
     ensures is { (view store.new, result) ≡ reads G.CODE (view store.old) text.now }
     ensures sheet { IfOk result (λ h. text.now ≡ sheet_text G.CODE (view store.new).nodes h.number) }
-    ensures kept { Kept G.table C.recalls store.new }
 {
-    let mut room = [BLANK; ROOM];
+    let mut room = [NodeLine::default(); ROOM];
     let mut lines = Filled::new(&mut room);
-    let checked = check(text, store.plan().pieces(), G::own_code(), &mut lines)?;
+    let checked = check(text, store.plan().pieces(), G::CODE, &mut lines)?;
     let mut places = [0; ROOM];
     let mut numbers = Filled::new(&mut places);
     enter(store, lines.items(), &mut numbers)?;

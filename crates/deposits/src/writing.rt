@@ -9,14 +9,6 @@ use sheets::{Nodes, list_lines, write_sheet};
 use store::{Handle, Store};
 use tables::ROOM;
 
-// What stands at first where the lines of a set go.
-pub const BLANK: NodeLine = NodeLine {
-    x: 0,
-    y: 0,
-    lo: 0,
-    hi: 0,
-};
-
 // Writes the sheet of a set at the page's start and answers where it ends. The rest of the page stays; declined, nothing changes.
 pub fn write<G: Chain, C: Cache>(
     store: &Store<G, C>,
@@ -26,11 +18,11 @@ pub fn write<G: Chain, C: Cache>(
     ensures { Writes G.CODE (view store.now) set page.old page.new result }
 {
     let orders = store.count(set)?;
-    let mut room = [BLANK; ROOM];
+    let mut room = [NodeLine::default(); ROOM];
     let mut lines = Filled::new(&mut room);
     let nodes = Nodes {
         rows: store.nodes(),
     };
     list_lines(nodes, set.number, &mut lines);
-    write_sheet(page, G::own_code(), orders, lines.items())
+    write_sheet(page, G::CODE, orders, lines.items())
 }

@@ -27,7 +27,7 @@ returns-in_err-handle-clause-is g c =
     let after = ap (λ (r : Result Handle Refusal). (v, handle_reply r)) (sym no.1) ∙ c.add.ensures.after in
     let fault : in_store no.0 (length (items_of c.loop-line.numbers) + 4) ≡ f = ap (λ n. in_store no.0 (n + 4)) (sym c.len.ensures) ∙ sym told in
     gave_fault (view c.args.store.now) c.args.numbers.now ls v c.loop-line.numbers f c.from_residual.result c.from_residual.ensures.1
-    (entering_declined g.G.Chain.table (view c.args.store.now) c.args.numbers.now ls u v c.loop-line.numbers k c.loop-line.invariant.entering c.loop-line-test.true _ _ low high no.0 after
+    (entering_declined g.G.Chain.table (view c.args.store.now) c.args.numbers.now ls u v c.loop-line.numbers k c.loop-line.invariant c.loop-line-test.true _ _ low high no.0 after
     ∙ ap (λ (x : Fault). (v, Err x)) fault)
 
 pub loop-line-preserved : goal.loop-line-preserved
@@ -41,13 +41,10 @@ loop-line-preserved g c =
     let h = c.in_ok-handle.handle in
     let yes = mapped_ok c.add.result c.map_err.result _ c.map_err.ensures.cases h c.in_ok-handle.was in
     let after = ap (λ (r : Result Handle Refusal). (v, handle_reply r)) (sym yes) ∙ c.add.ensures.after in
-    record {
-      entering = entering_more g.G.Chain.table (view c.args.store.now) c.args.numbers.now ls u v c.loop-line.numbers k c.loop-line.invariant.entering c.loop-line-test.true _ _ low high h after
-          c.add-in-loop-line.new.self c.add-in-loop-line.result c.add-in-loop-line.ensures.answer c.add-in-loop-line.ensures.lender;
-      kept = c.add.ensures.kept;
-    }
+    entering_more g.G.Chain.table (view c.args.store.now) c.args.numbers.now ls u v c.loop-line.numbers k c.loop-line.invariant c.loop-line-test.true _ _ low high h after
+    c.add-in-loop-line.new.self c.add-in-loop-line.result c.add-in-loop-line.ensures.answer c.add-in-loop-line.ensures.lender
 
 pub returns-clause-is : goal.returns-clause-is
 returns-clause-is g c =
-    entering_end (view c.args.store.now) c.args.numbers.now c.args.lines.now (view c.loop-line.store) c.loop-line.numbers c.loop-line.line-index c.loop-line.invariant.entering
+    entering_end (view c.args.store.now) c.args.numbers.now c.args.lines.now (view c.loop-line.store) c.loop-line.numbers c.loop-line.line-index c.loop-line.invariant
     c.loop-line-test.false

@@ -35,6 +35,6 @@ returns g c =
     let h = c.args.set in
     let yes = accepted _ _ _ c.in_ok-orders.ensures.reply in
     let items = c.items.ensures ∙ c.list_lines.ensures.items ∙ ap (λ (N : List Node). (sheet_of N h.number).lines) c.nodes.ensures.is in
-    let is = text_is g.G.Chain.CODE w.nodes h.number _ _ _ c.own_code.ensures yes.1 items in
+    let is = text_is g.G.Chain.CODE w.nodes h.number _ _ _ c.CODE.ensures yes.1 items in
     writes_yes g.G.Chain.CODE w h c.args.page.now c.write_sheet.new.page c.write_sheet.result yes.0
     (subst (λ (t : List ℕ). Put c.args.page.now c.write_sheet.new.page 0 t c.write_sheet.result) is c.write_sheet.ensures)
