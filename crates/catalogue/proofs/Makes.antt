@@ -1,11 +1,9 @@
 -- One request, as the call that it makes. Assumes nothing.
-use Rattle.std.proofs.Common.{◌≡◌, ℕ, ◌+◌, ◌-◌, ◌^◌, ◌<◌, ◌≤◌, min, Bool, true, false, leb, List, [], ◌∷◌, ◌++◌, length, get_or, take, drop, set, Some, None, Ok, Err, vec_items, Option, Result, Vec, sym, refl, ap, ◌∙◌, subst, arith, length-append, le-leb}
+use Rattle.std.proofs.Common.{◌≡◌, ℕ, ◌+◌, ◌-◌, ◌^◌, ◌<◌, ◌≤◌, min, Bool, true, false, leb, List, [], ◌∷◌, ◌++◌, length, get_or, take, drop, set, Some, None, Ok, Err, Option, Result, sym, refl, ap, ◌∙◌, subst, arith, length-append, le-leb}
 use borrow.Author.Tests.{lt-leb}
 use Rattle.std.proofs.lemmas.Bool.Decides.{nat_tests}
-use Rattle.std.specs.declared.alloc.Global.{Global}
 use Rattle.orders.specs.declared.refusal.Refusal.{Refusal}
 use Rattle.orders.specs.declared.refusal.Refusal.TheVariants.{NoSuchHold}
-use Rattle.caches.specs.Recall.{Recalls}
 use Rattle.orders.specs.declared.chain.Chain as chain
 use Rattle.caches.specs.declared.Cache as cache
 use Rattle.lines.specs.Pages.{Stands, Short}
@@ -20,7 +18,6 @@ use Rattle.sheets.specs.declared.checking.Checked.{Checked}
 use Rattle.sheets.specs.Checks as checks
 use Rattle.sheets.specs.Checks.{checked}
 use Rattle.store.specs.declared.hold.Hold.{Hold}
-use Rattle.store.specs.declared.shapes.Found.{Found}
 use Rattle.store.specs.declared.shapes.Handle.{Handle}
 use Rattle.store.specs.declared.shapes.SetCall.{SetCall}
 use Rattle.store.specs.declared.store.Store.{Store}
@@ -29,39 +26,35 @@ use Rattle.store.specs.Questions.{or_else, handle_asked, order_asked, spot_asked
 use Rattle.store.specs.Steps as store
 use Rattle.store.specs.Steps.{sets, adds, holds, releases, held, released, released_by, sweep, declined, worked, unless, node_asked, season_asked, entries_if, entries_in, swept_view, left}
 use Rattle.store.specs.Does as StoreDoes
-use Rattle.store.specs.Does.{Kept, handle_reply, sweep_reply}
+use Rattle.store.specs.Does.{handle_reply}
 use Rattle.deposits.specs.Writing.{sheet_text, WritesIf, Writes}
 use Rattle.deposits.specs.Reading as deposits
 use Rattle.deposits.specs.Reading.{Entry, enters_by, enters, rooted, reads_by}
 use Rattle.catalogue.specs.declared.request.Name.{Name}
 use Rattle.catalogue.specs.declared.request.Claim.{Claim}
-use Rattle.catalogue.specs.declared.request.Request.{Request}
-use Rattle.catalogue.specs.declared.request.Request.TheVariants.{Work, Add, Hold as HoldOn, Release, Sweep, Read}
-use Rattle.catalogue.specs.declared.request.Answer.{Answer}
-use Rattle.catalogue.specs.declared.request.Answer.TheVariants.{Worked, Added, Held as HeldSo, Released, Returned, Swept, Read as ReadSo}
-use Rattle.catalogue.specs.declared.request.Asked.{Asked}
-use Rattle.catalogue.specs.declared.request.Asked.TheVariants.{Single, Join, Meet, Without, Carry, Follow, Pick}
-use Rattle.catalogue.specs.Calls.{Call, stores, reads, looks, Look, Reply, stored, read, look, as_stored, as_read, sheet_on, fits_on}
+use Rattle.catalogue.specs.Requests.{Asked}
+use Rattle.store.specs.declared.shapes.SetCall.TheVariants.{Single, Join, Meet, Without, Carry, Follow, Pick}
+use Rattle.catalogue.specs.Calls.{stores, reads, looks, Look, Reply, stored, read, look, as_stored, as_read, sheet_on, fits_on}
 use Rattle.catalogue.specs.Runs.{Does}
-use Rattle.catalogue.specs.Requests.{set_call, spot_fits, names_asked, handle_named, hold_named, call_of, reply_of, entries_of}
+use Rattle.catalogue.specs.Requests.{set_call, spot_fits, names_asked, handle_named, hold_named}
 use Rattle.catalogue.specs.Racks.{Slots, Racked, Lacks, Took, hold_on}
-use Rattle.catalogue.specs.Serves.{Works, Serves}
+use Rattle.catalogue.specs.Serves.{Holds, Releases}
 use Rattle.catalogue.proofs.Slots.{some_within}
 use Rattle.catalogue.proofs.Racking.{racked_same, racked_swept, racked_set, racked_held, racked_lacks, given, taken_back}
 
-module _ {G C : Type 0} {cg : chain.Ghosts G} {cc : cache.Ghosts C} (code : ℕ) (g : Moves) (rc : C → Recalls) where
+module _ {G C : Type 0} {cg : chain.Ghosts G} {cc : cache.Ghosts C} where
   -- one of the store's own calls
-  pub stored_does : {s t : Store G C cg cc} {call : store.Call} {reply : store.Reply} {n : ℕ} → StoreDoes.Does g rc s call t reply n → Does code g rc s (stores call) t (stored reply) n
-  stored_does d = record { after = ap as_stored d.after; kept = d.kept; most = d.most; just = d.just }
+  pub stored_does : {s t : Store G C cg cc} {call : store.Call} {reply : store.Reply} {n : ℕ} → StoreDoes.Does s call t reply n → Does s (stores call) t (stored reply) n
+  stored_does d = record { after = ap as_stored d.after; most = d.most; just = d.just }
 
   -- a sheet is read
-  pub read_does : {s t : Store G C cg cc} {text : List ℕ} {r : Result Handle Fault} → ◌≡◌ {A = View × Result Handle Fault} (view t, r) (deposits.reads code (view s) text) → Kept g rc t
-      → Does code g rc s (reads text) t (read r) 0
-  read_does e k = record { after = ap as_read e; kept = k; most = omega arith; just = λ f. refl }
+  pub read_does : {s t : Store G C cg cc} {text : List ℕ} {r : Result Handle Fault} → ◌≡◌ {A = View × Result Handle Fault} (view t, r) (deposits.reads cg.CODE (view s) text)
+      → Does s (reads text) t (read r) 0
+  read_does e = record { after = ap as_read e; most = omega arith; just = λ f. refl }
 
   -- nothing changes
-  pub look_does : (s : Store G C cg cc) (l : Look) (reply : Reply) → Kept g rc s → reply ≡ look code g (view s) l → Does code g rc s (looks l) s reply 0
-  look_does s l reply k e = record { after = ap (λ (r : Reply). (view s, r)) e; kept = k; most = omega arith; just = λ f. refl }
+  pub look_does : (s : Store G C cg cc) (l : Look) (reply : Reply) → reply ≡ look cg.CODE cg.table (view s) l → Does s (looks l) s reply 0
+  look_does s l reply e = record { after = ap (λ (r : Reply). (view s, r)) e; most = omega arith; just = λ f. refl }
 
 -- a piece or a place above 16 is not within the store's pieces
 spot_no : (w : View) (k p : ℕ) (e : Refusal) → spot_fits k p ≡ Some e → spot_asked w k p ≡ Some e
@@ -87,13 +80,12 @@ names_no w (Follow a b) e h = h
 names_no w (Pick a k p) e h = pick_no w (handle_asked w (handle_named a)) k p e h
 
 -- a call that a question declines leaves the store as it was
-pub declined_does : {G C : Type 0} {cg : chain.Ghosts G} {cc : cache.Ghosts C} (g : Moves) (rc : C → Recalls) (s : Store G C cg cc) (call : SetCall) (e : Refusal) → call_asked (view s) call ≡ Some e → Kept g rc s → StoreDoes.Does g rc s (sets call) s (declined e) 0
-declined_does g rc s call e h k =
+pub declined_does : {G C : Type 0} {cg : chain.Ghosts G} {cc : cache.Ghosts C} (s : Store G C cg cc) (call : SetCall Handle ℕ) (e : Refusal) → call_asked (view s) call ≡ Some e → StoreDoes.Does s (sets call) s (declined e) 0
+declined_does {cg = cg} s call e h =
     let w = view s in
-    let o = task g (room_of w) w.nodes (task_of call) in
+    let o = task cg.table (room_of w) w.nodes (task_of call) in
     record {
       after = sym (ap (λ q. unless q w (worked w o)) h);
-      kept = k;
       most = omega arith;
       just = λ f. sym (ap (λ q. min (entries_if q (entries_in o)) (2 ^ 64 - 1)) h);
     }
@@ -143,7 +135,7 @@ module _ (g : Moves) (w t : View) (R : Slots) (k : Racked w R) where
   after_same : {v : View} → Same w v → t ≡ v → Racked t R
   after_same h e = racked_same w t R (ap (λ (x : View). x.pegs) e ∙ h.pegs) (ap (λ (x : View). x.plan) e ∙ h.plan) k
 
-  pub after_sets : (call : SetCall) {r : store.Reply} → ◌≡◌ {A = store.After} (t, r) (store.step g w (sets call)) → Racked t R
+  pub after_sets : (call : SetCall Handle ℕ) {r : store.Reply} → ◌≡◌ {A = store.After} (t, r) (store.step g w (sets call)) → Racked t R
   after_sets call e = after_same (unless_same (call_asked w call) w (task g (room_of w) w.nodes (task_of call))) (ap (λ (a : store.After). a.0) e)
 
   pub after_adds : (x y lo hi : ℕ) {r : store.Reply} → ◌≡◌ {A = store.After} (t, r) (store.step g w (adds x y lo hi)) → Racked t R
@@ -189,67 +181,40 @@ module _ (code : ℕ) (w : View) (h : Handle) (before after : List ℕ) (q : han
       ap Err s.number ∙ sheet_by false (lt-leb (length text) (length before) (omega (arith, s.room)))
 
 -- a hold that is in hand is given back
-pub released_serves : {G C : Type 0} {cg : chain.Ghosts G} {cc : cache.Ghosts C} (code : ℕ) (g : Moves) (rc : C → Recalls) (s t : Store G C cg cc) (R R' : Slots) (c : Claim) (d : Hold) → length (view s).pegs ≡ 64 → Racked (view s) R → Took R R' c d
-    → StoreDoes.Does g rc s (releases d) t released 0 → Serves code g rc s (Release c) t R' Released
-released_serves code g rc s t R R' c d long k took does =
-    let w = view s in
-    let there : get_or R c.peg None ≡ Some (hold_named c) = took.there ∙ ap Some took.hold in
-    let h = racked_held w R k c there in
-    let lt : c.peg < 64 = omega (arith, some_within R c.peg _ there, k.long) in
-    let is : StoreDoes.Does g rc s (releases (hold_named c)) t released 0 = subst (λ (x : Hold). StoreDoes.Does g rc s (releases x) t released 0) took.hold does in
-    let after = taken_back g w (view t) (hold_named c) h.0 h.1 is.after in
-    record {
-      does = stored_does code g rc is;
-      racked = subst (λ (v : View). Racked v R') (sym after) (subst (λ (S : Slots). Racked (with_pegs w (set w.pegs c.peg None)) S) (sym took.slots) (racked_set w R k long c.peg lt None));
-    }
+module _ {G C : Type 0} {cg : chain.Ghosts G} {cc : cache.Ghosts C} (s t : Store G C cg cc) (R R' : Slots) (c : Claim) (k : Racked (view s) R) where
+  module _ (d : Hold) (took : Took R R' c d) (does : StoreDoes.Does s (releases d) t released 0) where
+    there : get_or R c.peg None ≡ Some (hold_named c)
+    there = took.there ∙ ap Some took.hold
 
--- a hold that is not in hand is declined
-pub returned_serves : {G C : Type 0} {cg : chain.Ghosts G} {cc : cache.Ghosts C} (code : ℕ) (g : Moves) (rc : C → Recalls) (s : Store G C cg cc) (R R' : Slots) (c : Claim) → Kept g rc s → Racked (view s) R → Lacks R c → R' ≡ R
-    → Serves code g rc s (Release c) s R' (Returned NoSuchHold c)
-returned_serves code g rc s R R' c kept k lacks same = record {
-  does = record {
-    after = sym (ap (λ r. as_stored (released_by (view s) (hold_named c) r)) (racked_lacks (view s) R k c lacks));
-    kept = kept;
+    pub released_does : Releases s c t (Ok tt)
+    released_does = subst (λ (x : Hold). StoreDoes.Does s (releases x) t released 0) took.hold does
+
+    pub released_racked : length (view s).pegs ≡ 64 → Racked (view t) R'
+    released_racked long =
+        let w = view s in
+        let h = racked_held w R k c there in
+        let lt : c.peg < 64 = omega (arith, some_within R c.peg _ there, k.long) in
+        let after = taken_back cg.table w (view t) (hold_named c) h.0 h.1 released_does.after in
+        subst (λ (v : View). Racked v R') (sym after) (subst (λ (S : Slots). Racked (with_pegs w (set w.pegs c.peg None)) S) (sym took.slots) (racked_set w R k long c.peg lt None))
+
+  -- a hold that is not in hand is declined
+  pub returned_does : Lacks R c → Releases s c s (Err (NoSuchHold, c))
+  returned_does lacks = record {
+    after = sym (ap (released_by (view s) (hold_named c)) (racked_lacks (view s) R k c lacks));
     most = omega arith;
     just = λ f. refl;
-  };
-  racked = subst (λ (S : Slots). Racked (view s) S) (sym same) k;
-}
+  }
 
 -- a set is held, and the hold is in hand
-pub held_serves : {G C : Type 0} {cg : chain.Ghosts G} {cc : cache.Ghosts C} (code : ℕ) (g : Moves) (rc : C → Recalls) (s t : Store G C cg cc) (R R' : Slots) (n : Name) (h : Handle) (p : ℕ) (d : Hold) (c : Claim)
-    → length (view s).pegs ≡ 64 → Racked (view s) R → h ≡ handle_named n → StoreDoes.Does g rc s (holds h p) t (held d) 0 → R' ≡ set R p (Some d) → hold_named c ≡ d
-    → Serves code g rc s (HoldOn n p) t R' (HeldSo (Ok c))
-held_serves code g rc s t R R' n h p d c long k e does slots claim =
-    let w = view s in
-    let it = given g w (view t) h p d does.after in
-    let is : StoreDoes.Does g rc s (holds (handle_named n) p) t (held d) 0 = subst (λ (x : Handle). StoreDoes.Does g rc s (holds x p) t (held d) 0) e does in
-    let into : R' ≡ set R p (hold_on w.plan.mark p (Some h.number)) = slots ∙ ap (λ (x : Hold). set R p (Some x)) it.hold in
-    record {
-      does = subst (λ (x : Hold). Does code g rc s (stores (holds (handle_named n) p)) t (stored (held x)) 0) (sym claim) (stored_does code g rc is);
-      racked = subst (λ (v : View). Racked v R') (sym it.view) (subst (λ (S : Slots). Racked (with_pegs w (set w.pegs p (Some h.number))) S) (sym into) (racked_set w R k long p it.within (Some h.number)));
-    }
+module _ {G C : Type 0} {cg : chain.Ghosts G} {cc : cache.Ghosts C} (s t : Store G C cg cc) (n : Name) (h : Handle) (p : ℕ) (d : Hold) (e : h ≡ handle_named n) (does : StoreDoes.Does s (holds h p) t (held d) 0) where
+  pub held_does : (c : Claim) → hold_named c ≡ d → Holds s n p t (Ok c)
+  held_does c claim =
+      let is : StoreDoes.Does s (holds (handle_named n) p) t (held d) 0 = subst (λ (x : Handle). StoreDoes.Does s (holds x p) t (held d) 0) e does in
+      subst (λ (x : Hold). StoreDoes.Does s (holds (handle_named n) p) t (held x) 0) (sym claim) is
 
-abbrev Bytes : Type 0
-Bytes = Vec ℕ Global
-
--- the other requests, each by what its call ensures
-module _ {G C : Type 0} {cg : chain.Ghosts G} {cc : cache.Ghosts C} (code : ℕ) (g : Moves) (rc : C → Recalls) (s : Store G C cg cc) (R : Slots) (kept : Kept g rc s) (k : Racked (view s) R) where
-  pub work_serves : (t : Store G C cg cc) (a : Asked) (r : Result Found Refusal) → Works g rc s a t r → Serves code g rc s (Work a) t R (Worked r)
-  work_serves t a r d = record { does = stored_does code g rc d; racked = after_sets g (view s) (view t) R k (set_call a) d.after }
-
-  pub add_serves : (t : Store G C cg cc) (x y lo hi : ℕ) (r : Result Handle Refusal) → StoreDoes.Does g rc s (adds x y lo hi) t (handle_reply r) 0 → Serves code g rc s (Add x y lo hi) t R (Added r)
-  add_serves t x y lo hi r d = record { does = stored_does code g rc d; racked = after_adds g (view s) (view t) R k x y lo hi d.after }
-
-  pub sweep_serves : (t : Store G C cg cc) (r : Result ℕ Refusal) → StoreDoes.Does g rc s sweep t (sweep_reply r) 0 → Serves code g rc s Sweep t R (Swept r)
-  sweep_serves t r d = record { does = stored_does code g rc d; racked = after_sweep g (view s) (view t) R k d.after }
-
-  pub read_serves : (t : Store G C cg cc) (text : Bytes) (r : Result Handle Fault) → ◌≡◌ {A = View × Result Handle Fault} (view t, r) (deposits.reads code (view s) (vec_items text)) → Kept g rc t → Serves code g rc s (Read text) t R (ReadSo r)
-  read_serves t text r e h = record { does = read_does code g rc e h; racked = after_reads g (view s) (view t) R k code (vec_items text) e }
-
-  -- a request that only looks
-  pub look_serves : (q : Request) (a : Answer) (l : Look) → call_of q ≡ looks l → entries_of a ≡ 0 → reply_of a ≡ look code g (view s) l → Serves code g rc s q s R a
-  look_serves q a l e f r = record {
-    does = subst (λ (c : Call). Does code g rc s c s (reply_of a) (entries_of a)) (sym e) (subst (λ (n : ℕ). Does code g rc s (looks l) s (reply_of a) n) (sym f) (look_does code g rc s l (reply_of a) kept r));
-    racked = k;
-  }
+  pub held_racked : (R R' : Slots) → length (view s).pegs ≡ 64 → Racked (view s) R → R' ≡ set R p (Some d) → Racked (view t) R'
+  held_racked R R' long k slots =
+      let w = view s in
+      let it = given cg.table w (view t) h p d does.after in
+      let into : R' ≡ set R p (hold_on w.plan.mark p (Some h.number)) = slots ∙ ap (λ (x : Hold). set R p (Some x)) it.hold in
+      subst (λ (v : View). Racked v R') (sym it.view) (subst (λ (S : Slots). Racked (with_pegs w (set w.pegs p (Some h.number))) S) (sym into) (racked_set w R k long p it.within (Some h.number)))

@@ -1,6 +1,11 @@
 -- The holds in hand, as the pegs change. Assumes nothing.
 use Rattle.std.proofs.Common.{◌≡◌, ℕ, zero, suc, ◌<◌, Bool, true, false, not, ◌&&◌, eqb, ltb, ◌⊎◌, [], ◌∷◌, map, length, get_or, set, replicate, is_some, Some, None, Ok, Err, Option, sym, refl, ap, ◌∙◌, inl, inr, arith, length-set, get_or-set_other, get_or-set_same}
 use lib.ListN.{length-replicate}
+use Rattle.std.proofs.Math.Logic.{∥∥₁_elim}
+use base.Stored.{Coded-set}
+use Rattle.std.specs.Coded.{coded_option}
+use native.Mathlib.Nat.{ℕ_set}
+use Rattle.store.specs.contracts.hold.Hold.{the_row}
 use Rattle.std.proofs.lemmas.Bool.Decides.{nat_tests}
 use Rattle.std.proofs.lemmas.Bool.{cases_eq}
 use Rattle.orders.specs.declared.refusal.Refusal.{Refusal}
@@ -122,3 +127,14 @@ given g w t a p d e = given_by w t a p d (or_else (handle_asked w a) (peg_asked 
 -- a hold that is the store's is taken back, and its peg is emptied
 pub taken_back : (g : Moves) (w t : View) (d : Hold) (n : ℕ) → held_on w d.mark d.peg ≡ Ok n → ◌≡◌ {A = After} (t, released) (step g w (releases d)) → t ≡ with_pegs w (set w.pegs d.peg None)
 taken_back g w t d n h e = ap (λ (r : After). r.0) (e ∙ ap (released_by w d) h)
+
+-- The rack's holds are the store's in one way at most, so that a desk can have it for a ghost field.
+holds_set : IsSet (Option Hold)
+holds_set = Coded-set (coded_option the_row.coded)
+
+pub racked_prop : (w : View) (R : Slots) → IsProp (Racked w R)
+racked_prop w R p q = λ i. record { long = ℕ_set _ _ p.long q.long i; each = λ n. holds_set _ _ (p.each n) (q.each n) i }
+
+-- what the ghost field holds
+pub racked_out : (w : View) (R : Slots) → ∥ Racked w R ∥₁ → Racked w R
+racked_out w R t = ∥∥₁_elim t (racked_prop w R) (λ r. r)

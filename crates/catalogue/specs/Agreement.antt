@@ -6,7 +6,6 @@
 -- read and written, counts and look-ups, in any order, handed anything, declined ones too.
 use Rattle.std.specs.Prelude.{◌≡◌, ℕ, ◌↔◌, List, None}
 use Rattle.orders.specs.declared.order.Order.{Order}
-use Rattle.caches.specs.Recall.{Recalls}
 use Rattle.orders.specs.declared.chain.Chain as chain
 use Rattle.caches.specs.declared.Cache as cache
 use Rattle.diagrams.specs.Moves.{Moves}
@@ -36,17 +35,18 @@ SameSet g w h v k = (o : Order) → Has g w h o ↔ Has g v k o
 abbrev pub sheet : ℕ → View → Handle → List ℕ
 sheet code w h = sheet_text code w.nodes h.number
 
--- Stores of the chain G, which has this code and these moves g, with the caches C and D, which remember what rc and rd say.
-pub record Agreement (G C D : Type 0) (cg : chain.Ghosts G) (cc : cache.Ghosts C) (cd : cache.Ghosts D) (code : ℕ) (g : Moves) (rc : C → Recalls) (rd : D → Recalls) : Type 0 where
+-- Stores of the chain G, with the caches C and D: `cg`, `cc` and `cd` are what the three say of themselves, the chain its code and its
+-- moves, a cache what it remembers.
+pub record Agreement (G C D : Type 0) (cg : chain.Ghosts G) (cc : cache.Ghosts C) (cd : cache.Ghosts D) : Type 0 where
   -- One store, after any list of calls: two handles that it accepts are equal exactly when they stand for the same orders.
-  pub one_handle : (plan : Plan) (calls : List Call) (s : Store G C cg cc) (replies : List Reply) (entries : List ℕ) → Reached code g rc plan calls s replies entries
-      → (h k : Handle) → Accepts (view s) h → Accepts (view s) k → (h ≡ k) ↔ SameSet g (view s) h (view s) k
+  pub one_handle : (plan : Plan) (calls : List Call) (s : Store G C cg cc) (replies : List Reply) (entries : List ℕ) → Reached plan calls s replies entries
+      → (h k : Handle) → Accepts (view s) h → Accepts (view s) k → (h ≡ k) ↔ SameSet cg.table (view s) h (view s) k
   -- Two stores begun alike, one with each cache, after the same calls: they have replied the same, refusals with all they
   -- tell too, and have the same nodes, pegs and season. Only the entries may differ.
   pub one_answer : (plan : Plan) (calls : List Call) (s : Store G C cg cc) (t : Store G D cg cd) (replies others : List Reply) (entries counts : List ℕ)
-      → Reached code g rc plan calls s replies entries → Reached code g rd plan calls t others counts → (replies ≡ others) × (view s ≡ view t)
+      → Reached plan calls s replies entries → Reached plan calls t others counts → (replies ≡ others) × (view s ≡ view t)
   -- Two stores begun from any plans, each after any list of its own: two sheets written from them are equal, byte for
   -- byte, exactly when their sets are.
   pub one_sheet : (plan scheme : Plan) (calls others : List Call) (s : Store G C cg cc) (t : Store G D cg cd) (replies answers : List Reply) (entries counts : List ℕ)
-      → Reached code g rc plan calls s replies entries → Reached code g rd scheme others t answers counts
-      → (h k : Handle) → Accepts (view s) h → Accepts (view t) k → (sheet code (view s) h ≡ sheet code (view t) k) ↔ SameSet g (view s) h (view t) k
+      → Reached plan calls s replies entries → Reached scheme others t answers counts
+      → (h k : Handle) → Accepts (view s) h → Accepts (view t) k → (sheet cg.CODE (view s) h ≡ sheet cg.CODE (view t) k) ↔ SameSet cg.table (view s) h (view t) k

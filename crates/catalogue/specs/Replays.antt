@@ -1,13 +1,10 @@
 -- What a list of requests comes to. Assumes nothing.
 use Rattle.std.specs.Prelude.{◌≡◌, ℕ, List, map, vec_items}
-use Rattle.caches.specs.Recall.{Recalls}
 use Rattle.orders.specs.declared.chain.Chain as chain
 use Rattle.caches.specs.declared.Cache as cache
-use Rattle.diagrams.specs.Moves.{Moves}
 use Rattle.store.specs.declared.plan.Plan.{Plan}
 use Rattle.store.specs.declared.store.Store.{Store}
 use Rattle.store.specs.Views.{view}
-use Rattle.store.specs.Does.{Kept}
 use Rattle.catalogue.specs.declared.request.Request.{Request}
 use Rattle.catalogue.specs.declared.request.Answer.{Answer}
 use Rattle.catalogue.specs.declared.playing.Transcript.{Transcript}
@@ -27,21 +24,20 @@ abbrev pub counts_of : List Answer → List ℕ
 counts_of answers = map entries_of answers
 
 -- The requests, one after another, turn the store s into t, with these answers.
-abbrev pub Played : {G C : Type 0} {cg : chain.Ghosts G} {cc : cache.Ghosts C} → ℕ → Moves → (C → Recalls) → Store G C cg cc → List Request → Store G C cg cc → List Answer → Type 0
-Played code g recalls s qs t answers = Runs code g recalls s (calls_of qs) t (replies_of answers) (counts_of answers)
+abbrev pub Played : {G C : Type 0} {cg : chain.Ghosts G} {cc : cache.Ghosts C} → Store G C cg cc → List Request → Store G C cg cc → List Answer → Type 0
+Played s qs t answers = Runs s (calls_of qs) t (replies_of answers) (counts_of answers)
 
 -- The store was begun from the plan and the requests were made of it in turn; then every hold was given back.
-pub record Replayed {G C : Type 0} {cg : chain.Ghosts G} {cc : cache.Ghosts C} (code : ℕ) (g : Moves) (recalls : C → Recalls) (plan : Plan) (qs : List Request) (r : Transcript G C cg cc) : Type 0 where
+pub record Replayed {G C : Type 0} {cg : chain.Ghosts G} {cc : cache.Ghosts C} (plan : Plan) (qs : List Request) (r : Transcript G C cg cc) : Type 0 where
   -- the store after the last request
   pub last : Store G C cg cc
   -- it came to be by the calls of the requests, with just these answers and their entries
-  pub reached : Reached code g recalls plan (calls_of qs) last (replies_of (vec_items r.answers)) (counts_of (vec_items r.answers))
+  pub reached : Reached plan (calls_of qs) last (replies_of (vec_items r.answers)) (counts_of (vec_items r.answers))
   -- the store that is handed over differs from it in its pegs alone, which are empty
   pub back : view r.store ≡ unpegged (view last)
-  pub kept : Kept g recalls r.store
 
 -- Every store over another cache that comes to be by the same calls from the same plan replied what stands among the answers, and is the same
 -- once its holds are given back.
-abbrev pub Alike : {G C D : Type 0} {cg : chain.Ghosts G} {cc : cache.Ghosts C} → (cd : cache.Ghosts D) → ℕ → Moves → (D → Recalls) → Plan → List Request → Transcript G C cg cc → Type 0
-Alike {G} {C} {D} {cg} cd code g rd plan qs r = (t : Store G D cg cd) (replies : List Reply) (counts : List ℕ) → Reached code g rd plan (calls_of qs) t replies counts
+abbrev pub Alike : {G C D : Type 0} {cg : chain.Ghosts G} {cc : cache.Ghosts C} → (cd : cache.Ghosts D) → Plan → List Request → Transcript G C cg cc → Type 0
+Alike {G} {C} {D} {cg} cd plan qs r = (t : Store G D cg cd) (replies : List Reply) (counts : List ℕ) → Reached plan (calls_of qs) t replies counts
     → (replies_of (vec_items r.answers) ≡ replies) × (view r.store ≡ unpegged (view t))

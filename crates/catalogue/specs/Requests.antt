@@ -6,6 +6,7 @@ use Rattle.store.specs.declared.hold.Hold.{Hold as HoldOf}
 use Rattle.store.specs.declared.shapes.Handle.{Handle}
 use Rattle.store.specs.declared.shapes.SetCall.{SetCall}
 use Rattle.store.specs.declared.shapes.SetCall.TheVariants as set
+use Rattle.store.specs.declared.shapes.SetCall.TheVariants.{Single, Join, Meet, Without, Carry, Follow, Pick}
 use Rattle.store.specs.Views.{View}
 use Rattle.store.specs.Questions.{ask, or_else, handle_asked}
 use Rattle.store.specs.Steps as store
@@ -13,8 +14,6 @@ use Rattle.store.specs.Steps.{sets, adds, holds, releases, sweep, released, retu
 use Rattle.store.specs.Does.{found_reply, found_entries, handle_reply, sweep_reply}
 use Rattle.catalogue.specs.declared.request.Name.{Name}
 use Rattle.catalogue.specs.declared.request.Claim.{Claim}
-use Rattle.catalogue.specs.declared.request.Asked.{Asked}
-use Rattle.catalogue.specs.declared.request.Asked.TheVariants.{Single, Join, Meet, Without, Carry, Follow, Pick}
 use Rattle.catalogue.specs.declared.request.Request.{Request}
 use Rattle.catalogue.specs.declared.request.Request.TheVariants.{Work, Add, Hold, Release, Sweep, Read, Len, Count, Fetch, Place, Held, Write}
 use Rattle.catalogue.specs.declared.request.Answer.{Answer}
@@ -28,8 +27,12 @@ handle_named n = record { season = n.season; number = n.number }
 abbrev pub hold_named : Claim → HoldOf
 hold_named c = record { mark = c.mark; peg = c.peg }
 
+-- a call that works out a set, with what somebody names
+abbrev pub Asked : Type 0
+Asked = SetCall Name ℕ
+
 -- the call that works out a set
-abbrev pub set_call : Asked → SetCall
+abbrev pub set_call : Asked → SetCall Handle ℕ
 set_call (Single o) = set.Single o
 set_call (Join a b) = set.Join (handle_named a) (handle_named b)
 set_call (Meet a b) = set.Meet (handle_named a) (handle_named b)
@@ -59,7 +62,7 @@ page = 40000
 -- the call that a request makes
 abbrev pub call_of : Request → Call
 call_of (Work a) = stores (sets (set_call a))
-call_of (Add x y lo hi) = stores (adds x y lo hi)
+call_of (Add line) = stores (adds line.x line.y line.lo line.hi)
 call_of (Hold n p) = stores (holds (handle_named n) p)
 call_of (Release c) = stores (releases (hold_named c))
 call_of Sweep = stores sweep
@@ -76,6 +79,11 @@ abbrev pub claim_reply : Result Claim Refusal → store.Reply
 claim_reply (Ok c) = store.held (hold_named c)
 claim_reply (Err e) = store.declined e
 
+-- a hold that was given back, or was declined
+abbrev pub end_reply : Result (Unit {0}) (Refusal × Claim) → store.Reply
+end_reply (Ok u) = released
+end_reply (Err p) = returned p.0 (hold_named p.1)
+
 -- the bytes of a sheet
 abbrev pub bytes_of : {Z : Type 0} → Result (Vec ℕ Z) Refusal → Result (List ℕ) Refusal
 bytes_of (Ok v) = Ok (vec_items v)
@@ -86,8 +94,7 @@ abbrev pub reply_of : Answer → Reply
 reply_of (answer.Worked r) = stored (found_reply r)
 reply_of (answer.Added r) = stored (handle_reply r)
 reply_of (answer.Held r) = stored (claim_reply r)
-reply_of answer.Released = stored released
-reply_of (answer.Returned e c) = stored (returned e (hold_named c))
+reply_of (answer.Released r) = stored (end_reply r)
 reply_of (answer.Swept r) = stored (sweep_reply r)
 reply_of (answer.Read r) = read r
 reply_of (answer.Standing n) = long n
@@ -102,8 +109,7 @@ abbrev pub entries_of : Answer → ℕ
 entries_of (answer.Worked r) = found_entries r
 entries_of (answer.Added r) = 0
 entries_of (answer.Held r) = 0
-entries_of answer.Released = 0
-entries_of (answer.Returned e c) = 0
+entries_of (answer.Released r) = 0
 entries_of (answer.Swept r) = 0
 entries_of (answer.Read r) = 0
 entries_of (answer.Standing n) = 0

@@ -2,11 +2,11 @@
 #![tactic(auto)]
 
 mod agreement;
+mod desk;
 mod naming;
 mod playing;
 mod rack;
 mod request;
-mod serving;
 
 pub use agreement::agreement_stands;
 pub use playing::{Transcript, replay};

@@ -18,14 +18,12 @@ impl Name {
         if self.season != u64::from(season) {
             return Err(Refusal::OtherSeason);
         }
-        if self.number > u64::from(u32::MAX) {
+        let Ok(number) = u32::try_from(self.number) else {
             return Err(Refusal::NoSuchNumber);
-        }
-        let number = store.number_of(Handle {
-            season,
-            number: self.number as u32,
-        })?;
-        Ok(Handle { season, number })
+        };
+        let handle = Handle { season, number };
+        store.number_of(handle)?;
+        Ok(handle)
     }
 }
 
@@ -70,32 +68,32 @@ fn known_with_spot<G: Chain, C: Cache>(
 pub(crate) fn set_call<G: Chain, C: Cache>(
     store: &Store<G, C>,
     asked: Asked,
-) -> Result<SetCall, Refusal>
+) -> Result<SetCall<Handle, u8>, Refusal>
     ensures { result ≡ answered (names_asked (view store.now) asked) (set_call asked) }
 {
     match asked {
-        Asked::Single(order) => Ok(SetCall::Single(order)),
-        Asked::Join(a, b) => {
+        SetCall::Single(order) => Ok(SetCall::Single(order)),
+        SetCall::Join(a, b) => {
             let (a, b) = both_known(store, a, b)?;
             Ok(SetCall::Join(a, b))
         }
-        Asked::Meet(a, b) => {
+        SetCall::Meet(a, b) => {
             let (a, b) = both_known(store, a, b)?;
             Ok(SetCall::Meet(a, b))
         }
-        Asked::Without(a, b) => {
+        SetCall::Without(a, b) => {
             let (a, b) = both_known(store, a, b)?;
             Ok(SetCall::Without(a, b))
         }
-        Asked::Carry(a, order) => {
+        SetCall::Carry(a, order) => {
             let a = a.known(store)?;
             Ok(SetCall::Carry(a, order))
         }
-        Asked::Follow(a, b) => {
+        SetCall::Follow(a, b) => {
             let (a, b) = both_known(store, a, b)?;
             Ok(SetCall::Follow(a, b))
         }
-        Asked::Pick(a, piece, place) => {
+        SetCall::Pick(a, piece, place) => {
             let (a, (piece, place)) = known_with_spot(store, a, piece, place)?;
             Ok(SetCall::Pick(a, piece, place))
         }

@@ -1,7 +1,8 @@
 // What is asked of a store in a list, and what it answers.
+use lists::NodeLine;
 use orders::{Order, Refusal};
 use sheets::Fault;
-use store::{Found, Handle};
+use store::{Found, Handle, SetCall};
 
 // A set by its handle, as somebody names it: any two numbers.
 #[derive(Clone, Copy)]
@@ -17,25 +18,15 @@ pub struct Claim {
     pub peg: u64,
 }
 
-// A set to be worked out.
-#[derive(Clone, Copy)]
-pub enum Asked {
-    Single(Order),
-    Join(Name, Name),
-    Meet(Name, Name),
-    Without(Name, Name),
-    Carry(Name, Order),
-    Follow(Name, Name),
-    // the piece, and then the place
-    Pick(Name, u64, u64),
-}
+// A call that works out a set, with what somebody names: any numbers.
+pub type Asked = SetCall<Name, u64>;
 
 // One call of a list.
 #[derive(Drop)]
 pub enum Request {
     Work(Asked),
-    // x, y, lo and hi of a node to be found or added
-    Add(u64, u64, u64, u64),
+    // a node to be found or added
+    Add(NodeLine),
     // a set and the peg that it is put on
     Hold(Name, u64),
     Release(Claim),
@@ -58,12 +49,11 @@ pub enum Request {
 // What a call answered, or why it was declined.
 #[derive(Drop)]
 pub enum Answer {
-    Worked(Result<Found, Refusal>),
+    Worked(Result<Found<Handle>, Refusal>),
     Added(Result<Handle, Refusal>),
     Held(Result<Claim, Refusal>),
-    Released,
-    // a release that was declined: whoever has the hold keeps it
-    Returned(Refusal, Claim),
+    // a release that is declined tells the hold: whoever has it keeps it
+    Released(Result<(), (Refusal, Claim)>),
     // how many nodes are left
     Swept(Result<usize, Refusal>),
     Read(Result<Handle, Fault>),

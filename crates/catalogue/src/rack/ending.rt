@@ -1,7 +1,6 @@
 // The holds of a rack, given back to their store.
 ghost use Rattle.std.specs.Prelude.{◌≡◌, Some, None};
 ghost use Rattle.store.specs.Views.{view};
-ghost use Rattle.store.specs.Does.{Kept};
 ghost use Rattle.catalogue.specs.Racks.{Racked, slots_of, unpegged};
 
 use super::Rack;
@@ -12,10 +11,8 @@ use store::Store;
 impl Rack {
     // Gives every hold back, from the last peg to the first.
     pub(crate) fn give_back<G: Chain, C: Cache>(self, store: &mut Store<G, C>)
-        requires kept { Kept G.table C.recalls store.old }
-        requires racked { Racked (view store.old) (slots_of self) }
-        ensures kept { Kept G.table C.recalls store.new }
-        ensures view { view store.new ≡ unpegged (view store.old) }
+        requires { Racked (view store.old) (slots_of self) }
+        ensures { view store.new ≡ unpegged (view store.old) }
     {
         let Rack { slots } = self;
         let mut rest = slots;

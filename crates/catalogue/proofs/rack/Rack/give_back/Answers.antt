@@ -7,7 +7,7 @@ use Rattle.catalogue.proofs.Emptying.{gone_none, last_held, gone_some, none_pegg
 use Rattle.catalogue.proofs.rack.Rack.give_back.Goals as goal
 
 pub loop-slot-init : goal.loop-slot-init
-loop-slot-init g c = let v = c.args.self.slots in record { kept = c.requires.kept; few = omega (arith, v.ok.0, c.requires.racked.long); each = c.requires.racked.each; only = refl }
+loop-slot-init g c = let v = c.args.self.slots in record { few = omega (arith, v.ok.0, c.requires.long); each = c.requires.each; only = refl }
 
 -- what the slots were before the last was taken
 before : (w : View) (L L' : Slots) (o x : Option Hold) → L ≡ L' ++ o ∷ [] → o ≡ x → Holding w L → Holding w (L' ++ x ∷ [])
@@ -20,7 +20,7 @@ give_back-requires g c =
     let L = v.items in
     let lt : length L < 64 = omega (arith, v.ok.0, c.in-Some.ensures.cases, c.loop-slot.invariant.few) in
     let k = before (view s) c.loop-slot.rest.items L _ _ c.in-Some.ensures.items c.in-Some-slot.is c.loop-slot.invariant.each in
-    record { kept = c.loop-slot.invariant.kept; holds = (last_held (view s) L c.in-Some-slot.hold k s.racked lt).held }
+    (last_held (view s) L c.in-Some-slot.hold k s.racked lt).held
 
 pub loop-slot-preserved-in-Some-slot : goal.loop-slot-preserved-in-Some-slot
 loop-slot-preserved-in-Some-slot g c =
@@ -36,7 +36,6 @@ loop-slot-preserved-in-Some-slot g c =
     let after : t ≡ with_pegs w (set w.pegs (length L) None) =
     taken_back g.G.Chain.table w t d last.held.0 last.held.1 c.give_back.ensures.after ∙ ap (λ p. with_pegs w (set w.pegs p None)) last.peg in
     record {
-      kept = c.give_back.ensures.kept;
       few = omega (arith, c.in-Some.ensures.cases, c.loop-slot.invariant.few);
       each = subst (λ (x : View). Holding x L) (sym after) (gone_some w L d k s.racked lt);
       only = only_pegs (view c.args.store.now) w t (set w.pegs (length L) None) c.loop-slot.invariant.only after;
@@ -47,7 +46,6 @@ loop-slot-preserved g c =
     let w = view c.loop-slot.store in
     let L = c.pop.new.self.items in
     record {
-      kept = c.loop-slot.invariant.kept;
       few = omega (arith, c.in-Some.ensures.cases, c.loop-slot.invariant.few);
       each = gone_none w L (before w c.loop-slot.rest.items L _ _ c.in-Some.ensures.items c.in-None.is c.loop-slot.invariant.each);
       only = c.loop-slot.invariant.only;
@@ -58,7 +56,4 @@ returns g c =
     let s = c.loop-slot.store in
     let v = c.loop-slot.rest in
     let nil = none_left v.items (omega (arith, v.ok.0, c.in_default.ensures.cases.0)) in
-    record {
-      kept = c.loop-slot.invariant.kept;
-      view = c.loop-slot.invariant.only ∙ ap (with_pegs (view c.args.store.now)) (none_pegged (view s) s.racked (subst (λ (L : Slots). Holding (view s) L) nil c.loop-slot.invariant.each));
-    }
+    c.loop-slot.invariant.only ∙ ap (with_pegs (view c.args.store.now)) (none_pegged (view s) s.racked (subst (λ (L : Slots). Holding (view s) L) nil c.loop-slot.invariant.each))

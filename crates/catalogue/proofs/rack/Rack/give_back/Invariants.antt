@@ -1,12 +1,10 @@
 use Rattle.std.proofs.Common.{◌≡◌, ◌≤◌, vec_items, vec_len}
 use Rattle.store.specs.Views.{view, with_pegs}
-use Rattle.store.specs.Does.{Kept}
 use Rattle.catalogue.specs.Racks.{Holding}
 use Rattle.catalogue.proofs.rack.Rack.give_back.Given as goal
 
 abbrev pub invariant-loop-slot : goal.invariant-loop-slot
 invariant-loop-slot g l = record {
-  kept : Kept g.G.Chain.table g.C.Cache.recalls l.store;
   few : vec_len l.rest ≤ 64;
   each : Holding (view l.store) (vec_items l.rest);
   only : view l.store ≡ with_pegs (view l.initial.store) (view l.store).pegs;

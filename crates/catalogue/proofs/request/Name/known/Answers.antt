@@ -8,6 +8,10 @@ pub returns-then-self-from : goal.returns-then-self-from
 unfolding handle_asked
 returns-then-self-from g c = let is = c.season-season.ensures in grind (arith, nat_tests)
 
-pub returns-then-self-from-2 : goal.returns-then-self-from-2
+pub returns-in_default : goal.returns-in_default
 unfolding handle_asked number_asked
-returns-then-self-from-2 g c = let is = c.season-season.ensures in let few = rows_within c.args.store.now.engine.table in grind (arith, nat_tests)
+returns-in_default g c =
+    let large = c.in_default.ensures in
+    let few = rows_within c.args.store.now.engine.table in
+    let is = c.season-season.ensures in
+    grind (arith, nat_tests)

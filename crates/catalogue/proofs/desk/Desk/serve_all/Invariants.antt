@@ -1,0 +1,6 @@
+use Rattle.std.proofs.Common.{take, vec_items}
+use Rattle.catalogue.specs.Replays.{Played}
+use Rattle.catalogue.proofs.desk.Desk.serve_all.Given as goal
+
+abbrev pub invariant-loop-request : goal.invariant-loop-request
+invariant-loop-request g l = Played l.initial.self.store (take l.request-index l.requests) l.self.store (vec_items l.answers)
