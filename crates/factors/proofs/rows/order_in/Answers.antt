@@ -13,9 +13,9 @@ returns-in-Some c =
     let row = c.in-Some.row in
     let read = c.in-Some.ensures in
     cases_map _ _ _ _ c.order_of.result
-    (λ o w. (held row, read.1, read.3, w))
+    (λ o w. (held row, read.0, read.2, w))
     (λ e r. record {
       why = r.why;
-      none = λ o is. r.none o (subst (λ l. Writes l (length l) o) (written_tells is.0 (held row) is.1 read.1 is.3.some read.2 (sym is.2 ∙ read.3)) is.3);
+      none = λ o is. r.none o (subst (λ l. Writes l (length l) o) (written_tells is.0 (held row) is.1 read.0 is.3.some read.1 (sym is.2 ∙ read.2)) is.3);
     })
     c.order_of.ensures
