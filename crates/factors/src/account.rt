@@ -1,5 +1,6 @@
 // The account of the lines of the input: one line for each, and how many were orders.
-ghost use Rattle.std.specs.Prelude.{◌≡◌, ◌+◌, ◌-◌, ◌^◌, min};
+ghost use Rattle.std.specs.Prelude.{◌≡◌, ℕ, ◌+◌, ◌-◌, ◌^◌, List, [], ◌++◌, min, string_bytes, IfOk, OnOk};
+ghost use Rattle.factors.specs.Account.{Told, ending};
 
 use crate::rows::order_in;
 use crate::text::Described;
@@ -47,7 +48,11 @@ pub struct Account {
 }
 
 impl Account {
-    pub fn new(heap: Global) -> Account {
+    // Nothing is told yet.
+    pub fn new(heap: Global) -> Account
+        ensures text { string_bytes result.text ≡ [] }
+        ensures tally { result.tally ≡ record { orders = 0; refused = 0 } }
+    {
         Account {
             text: String::new(heap),
             tally: Tally::default(),
@@ -55,7 +60,11 @@ impl Account {
     }
 
     // One line of the account: the order's dimension and factors, or why it is refused.
-    pub fn tell(&mut self, line: &[u8]) -> Result<(), AllocError> {
+    pub fn tell(&mut self, line: &[u8]) -> Result<(), AllocError>
+        ensures { OnOk result ((told : List ℕ)
+            × (string_bytes self.new.text ≡ string_bytes self.old.text ++ told)
+            × Told line.now self.old.tally.orders self.old.tally.refused self.new.tally.orders self.new.tally.refused told) }
+    {
         match order_in(line) {
             Ok(order) => {
                 let number = self.tally.accept();
@@ -71,7 +80,9 @@ impl Account {
     }
 
     // The whole account, which ends with how many lines were orders.
-    pub fn end(self) -> Result<String, AllocError> {
+    pub fn end(self) -> Result<String, AllocError>
+        ensures { IfOk result (λ t. string_bytes t ≡ string_bytes self.text ++ ending self.tally.orders self.tally.refused) }
+    {
         let Account { mut text, tally } = self;
         let Tally { orders, refused } = tally;
         write!(text, "{orders} orders, {refused} refused\n")?;
