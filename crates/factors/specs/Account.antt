@@ -1,5 +1,5 @@
 -- What the account says of each line. Assumes nothing.
-use Rattle.std.specs.Prelude.{◌≡◌, ℕ, Bool, true, false, ◌⊎◌, List, [], ◌∷◌, ◌++◌, length, codes, decimal}
+use Rattle.std.specs.Prelude.{◌≡◌, ℕ, ◌+◌, ◌-◌, ◌^◌, min, Bool, true, false, ◌⊎◌, List, [], ◌∷◌, ◌++◌, length, codes, decimal}
 use Rattle.orders.specs.Entries.{Writes}
 use Rattle.orders.specs.Dimension.{dimension}
 use Rattle.orders.specs.Tables.{swap, rotation}
@@ -43,3 +43,19 @@ factors_text ps = or_none (factor_list ps)
 -- an order's dimension, and its factors by both chains
 abbrev pub account : Order → List ℕ
 account o = codes "dimension " ++ (decimal (dimension o) ++ (codes "; swaps" ++ (factors_text (factor_pairs swap o) ++ (codes "; rotations" ++ factors_text (factor_pairs rotation o)))))
+
+-- a count that stops at the largest number of 64 bits
+abbrev pub counted : ℕ → ℕ
+counted n = min n (2 ^ 64 - 1)
+
+-- What is told of a line after so many orders and so many refused, and how many there are then: the account of its order, or that it is refused.
+abbrev pub Told : List ℕ → ℕ → ℕ → ℕ → ℕ → List ℕ → Type 0
+Told line orders refused orders' refused' told =
+    ((o : Order) × Row line o × (orders' ≡ counted (orders + 1)) × (refused' ≡ refused)
+    × (told ≡ decimal (counted (orders' + refused')) ++ (codes ": " ++ (account o ++ 10 ∷ []))))
+    ⊎ (((o : Order) → Row line o → ⊥) × (orders' ≡ orders) × (refused' ≡ counted (refused + 1))
+    × (told ≡ decimal (counted (orders' + refused')) ++ (codes ": refused 3" ++ 10 ∷ [])))
+
+-- the last line: how many were orders, and how many were refused
+abbrev pub ending : ℕ → ℕ → List ℕ
+ending orders refused = decimal orders ++ (codes " orders, " ++ (decimal refused ++ (codes " refused" ++ 10 ∷ [])))

@@ -5,49 +5,21 @@ mod account;
 mod rows;
 mod text;
 
-use account::Tally;
-use rows::{next_line, order_in};
+use account::Account;
+use rows::next_line;
 use std::alloc::{AllocError, Global};
 use std::io::Read;
-use text::described;
-
-// One line of the account: the order's dimension and factors, or why it is refused.
-fn put_line(
-    heap: Global,
-    text: &mut String,
-    tally: &mut Tally,
-    line: &[u8],
-) -> Result<(), AllocError> {
-    let told = match order_in(line) {
-        Ok(order) => {
-            let number = tally.accept();
-            let order = described(heap, order)?;
-            format!(in heap; "{number}: {order}\n")?
-        }
-        Err(refusal) => {
-            let number = tally.refuse();
-            let why = refusal.number();
-            format!(in heap; "{number}: refused {why}\n")?
-        }
-    };
-    text.push_str(&told)
-}
 
 // The account of all lines, and how many were orders.
 fn account_of(heap: Global, input: &[u8]) -> Result<String, AllocError> {
-    let mut text = String::new(heap);
-    let mut tally = Tally::new();
+    let mut account = Account::new(heap);
     let mut rest = input;
     while !rest.is_empty() {
         let (line, after) = next_line(rest);
-        put_line(heap, &mut text, &mut tally, line)?;
+        account.tell(line)?;
         rest = after;
     }
-    let orders = tally.orders;
-    let refused = tally.refused;
-    let last = format!(in heap; "{orders} orders, {refused} refused\n")?;
-    text.push_str(&last)?;
-    Ok(text)
+    account.end()
 }
 
 fn main(rt: HostRuntime) -> anyhow::Result<()> {

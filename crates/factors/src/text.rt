@@ -1,49 +1,58 @@
 // The account of one order, as text.
-ghost use Rattle.std.specs.Prelude.{◌≡◌, ◌++◌, IfOk, string_bytes, OnOk, nat_lt};
-ghost use Rattle.orders.specs.Factors.{pairs_in, factor_pairs};
-ghost use Rattle.factors.specs.Account.{factor_text, factors_text, account};
+ghost use Rattle.std.specs.Prelude.{Some};
+ghost use Rattle.orders.specs.Factors.{pairs_in};
+ghost use Rattle.factors.specs.Account.{factors_text, account};
 
-use orders::{Chain, Order, Rotation, Swap, factors};
-use std::alloc::{AllocError, Global};
+use orders::{Order, Rotation, Swap, factors};
+use std::fmt;
 
-// One factor more, if y is below x.
-fn put_factor(heap: Global, text: &mut String, x: u8, y: u8) -> Result<(), AllocError>
-    ensures { OnOk result (string_bytes text.new ≡ string_bytes text.old ++ factor_text x y (nat_lt y x)) }
-{
-    if y < x {
-        let factor = format!(in heap; " ({x},{y})")?;
-        text.push_str(&factor)?;
-    }
-    Ok(())
+// A row of factors, shown from the highest piece down, each as ` (x,y)`, or ` none`.
+#[derive(Clone, Copy)]
+struct Factors {
+    row: [u8; 16],
 }
 
-// The factors of a row of them, from the highest piece down.
-fn row_text(heap: Global, row: [u8; 16]) -> Result<String, AllocError>
-    ensures { IfOk result (λ t. string_bytes t ≡ factors_text (pairs_in row 16)) }
-{
-    let mut text = String::new(heap);
-    for j in (0..16u8).rev() {
-        put_factor(heap, &mut text, j + 1, row[j as usize])?;
+impl fmt::Display for Factors {
+    ghost output = { λ shown. Some (factors_text (pairs_in shown.row 16)) };
+
+    fn fmt<W: fmt::Write>(&self, f: &mut fmt::Formatter<W>) -> fmt::Result {
+        let mut none = true;
+        let mut rest = &self.row[..];
+        while let Some((y, below)) = rest.split_last() {
+            let x = rest.len();
+            if (*y as usize) < x {
+                write!(f, " ({x},{y})")?;
+                none = false;
+            }
+            rest = below;
+        }
+        if none {
+            write!(f, " none")?;
+        }
+        Ok(())
     }
-    if text.is_empty() {
-        text.push_str(" none")?;
-    }
-    Ok(text)
 }
 
-// The factors of an order by one chain.
-fn factor_text<C: Chain>(heap: Global, order: Order) -> Result<String, AllocError>
-    ensures { IfOk result (λ t. string_bytes t ≡ factors_text (factor_pairs C.table order)) }
-{
-    row_text(heap, factors::<C>(order))
+// An order, shown as its dimension and its factors by both chains.
+#[derive(Clone, Copy)]
+pub struct Described {
+    pub order: Order,
 }
 
-// The dimension of an order, and its factors by both chains.
-pub fn described(heap: Global, order: Order) -> Result<String, AllocError>
-    ensures { IfOk result (λ t. string_bytes t ≡ account order) }
-{
-    let dimension = order.dimension();
-    let swaps = factor_text::<Swap>(heap, order)?;
-    let rotations = factor_text::<Rotation>(heap, order)?;
-    format!(in heap; "dimension {dimension}; swaps{swaps}; rotations{rotations}")
+impl fmt::Display for Described {
+    ghost output = { λ shown. Some (account shown.order) };
+
+    fn fmt<W: fmt::Write>(&self, f: &mut fmt::Formatter<W>) -> fmt::Result {
+        let dimension = self.order.dimension();
+        let swaps = Factors {
+            row: factors::<Swap>(self.order),
+        };
+        let rotations = Factors {
+            row: factors::<Rotation>(self.order),
+        };
+        write!(
+            f,
+            "dimension {dimension}; swaps{swaps}; rotations{rotations}"
+        )
+    }
 }

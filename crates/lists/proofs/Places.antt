@@ -1,9 +1,9 @@
 -- What stands at the places of a list, and a search that goes through them. Assumes nothing.
-use Rattle.std.proofs.Common.{◌≡◌, ℕ, zero, suc, ◌+◌, ◌-◌, ◌<◌, ◌≤◌, false, List, [], ◌∷◌, ◌++◌, length, take, drop, set, get_or, append_assoc, append-nil, add-one, Some, None, Decides, Option, sym, refl, ap, ◌∙◌, ⊎_elim, true≢false, arith, Bor, below_more}
-use Rattle.std.specs.List.{slice_get}
+use Rattle.std.proofs.Common.{◌≡◌, ℕ, zero, suc, ◌+◌, ◌-◌, ◌<◌, ◌≤◌, List, [], ◌∷◌, ◌++◌, length, take, drop, set, append_assoc, append-nil, add-one, Some, None, MatchOption, Option, sym, refl, ap, ◌∙◌, ⊎_elim, arith, Bor}
+use Rattle.std.specs.List.{slice_get, AllWithin, HoldsAt}
 use Rattle.std.specs.Option.{option_map}
 use Rattle.std.specs.Slice.{IsGetResult}
-use Rattle.std.proofs.lemmas.Option.{slice_get_read, slice_get_past}
+use Rattle.std.proofs.lemmas.Option.{slice_get_read, slice_get_past, get_or_from_slice_get}
 use Rattle.std.proofs.lemmas.Bool.{cases_lt}
 use Rattle.lists.specs.declared.filled.Filled.{Filled}
 use Rattle.lists.specs.Items.{items_of, room_of, laid, Grown, Extended, Found}
@@ -11,25 +11,17 @@ use borrow.Rule.Slice.PartMut.{put_mid}
 use Rattle.std.proofs.lemmas.List.{set_split, take_at, drop_at, drop-drop, length-append, length-take-le, length-drop, take-append-drop}
 
 module _ {X : Type 0} where
-  -- x is none of the first n
-  abbrev pub Before : List X → X → ℕ → Type 0
-  Before xs x n = (place : ℕ) → place < n → slice_get xs place ≡ Some x → ⊥
-
-  -- one place more, where y was read, which is not x
-  pub before_more : (xs : List X) (x y : X) (i : ℕ) → Before xs x i → i < length xs → y ≡ get_or xs i y → Decides false (y ≡ x) → Before xs x (i + 1)
-  before_more xs x y i before within is differs = below_more (λ place. slice_get xs place ≡ Some x → ⊥) i before here
+  -- the first place that has x, as `position` finds it, or none
+  pub found_first : (xs : List X) (x : X) (r : Option ℕ) →
+      MatchOption r (AllWithin (λ y. y ≡ x → ⊥) xs 0 (length xs)) (λ i. (i < length xs) × HoldsAt (λ y. y ≡ x) xs i × AllWithin (λ y. y ≡ x → ⊥) xs 0 i) → Found xs x r
+  found_first xs x None none = λ place e. none_at place e
     where
-      here : slice_get xs i ≡ Some x → ⊥
-      here e = let met = slice_get_read xs (length xs) i y refl within is in
-          let one : y ≡ x = cc in true≢false (sym (differs.1 one))
-
-  -- no place is left
-  pub before_all : (xs : List X) (x : X) (i : ℕ) → length xs ≤ i → Before xs x i → Found xs x None
-  before_all xs x i past before place e = ⊎_elim (λ h. before place h e) beyond (cases_lt place i)
-    where
-      beyond : i ≤ place → ⊥
-      beyond h = let none = slice_get_past xs place (omega arith) in
-          let z : ◌≡◌ {A = ℕ} 0 1 = cc in omega arith
+      none_at : (place : ℕ) → slice_get xs place ≡ Some x → ⊥
+      none_at place e = ⊎_elim
+          (λ l. none place x (omega arith) l (get_or_from_slice_get xs place x x e))
+          (λ h. let end = slice_get_past xs place h in let z : ◌≡◌ {A = ℕ} 0 1 = cc in omega arith)
+          (cases_lt place (length xs))
+  found_first xs x (Some i) h = slice_get_read xs (length xs) i x refl h.0 (sym (h.1 x))
 
   -- the record that was lent from a place, copied
   pub got : (xs : List X) (i : ℕ) (r : Option (Bor X)) → IsGetResult xs i i r → option_map (λ x. x.now) r ≡ slice_get xs i

@@ -69,30 +69,22 @@ fn neighbours(kind: u8, i: u32) -> Triple {
     }
 }
 
-// How many of 4,096 told pairs are left of each way to make them. With 512 slots that is how many slots are filled.
-fn filled(kind: u8) -> (u32, u32) {
-    let mut square = Slots::new();
-    let mut row = Slots::new();
+// How many of 4,096 told pairs are left, of those that `made` makes. With 512 slots that is how many slots are filled.
+fn filled<F: Fn(u32) -> Triple + Drop>(made: F) -> usize
+    requires { F.IsAlwaysCallable made }
+{
+    let mut cache = Slots::new();
     for i in 0..4096 {
-        square.tell(in_square(kind, i), i);
-        row.tell(neighbours(kind, i), i);
+        cache.tell(made(i), i);
     }
-    let mut left = (0u32, 0u32);
-    for i in 0..4096 {
-        if square.ask(in_square(kind, i)).is_some() {
-            left.0 = left.0.saturating_add(1);
-        }
-        if row.ask(neighbours(kind, i)).is_some() {
-            left.1 = left.1.saturating_add(1);
-        }
-    }
-    left
+    (0..4096).filter(|i| cache.ask(made(*i)).is_some()).count()
 }
 
 #[test]
 fn of_512_slots_4096_pairs_of_small_numbers_fill_at_least_500(rt: HostRuntime) {
     for kind in 0..8 {
-        let (square, row) = filled(kind);
+        let square = filled(|i| in_square(kind, i));
+        let row = filled(|i| neighbours(kind, i));
         assert!(rt; square >= 500 && square <= 512);
         assert!(rt; row >= 500 && row <= 512);
     }
