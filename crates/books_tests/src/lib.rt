@@ -5,8 +5,8 @@
 mod examples {
     use books::{Book, line_of, read_book};
     use lists::Filled;
-    use orders::Order;
-    use sheets::Part;
+    use orders::{Order, Refusal};
+    use sheets::{Fault, Part};
     use std::test::Fail;
 
     // Whether a list with room for two orders refuses the book by this number, with this line and part.
@@ -169,5 +169,14 @@ mod examples {
                 Part::Line,
             )
         );
+    }
+
+    #[test]
+    fn a_fault_is_shown(rt: HostRuntime) -> Result<(), Fail> {
+        let fault = Fault::new(Refusal::Misnumbered, 4, Part::Sheet);
+        assert!(rt; fault.to_string(rt.alloc())?.as_str() == "line 4 (sheet): refused by 17");
+        let fault = Fault::new(Refusal::NoRoom, 12, Part::Book);
+        assert!(rt; fault.to_string(rt.alloc())?.as_str() == "line 12 (book): refused by 7");
+        Ok(())
     }
 }

@@ -1,9 +1,11 @@
 -- Node lines, one after the other. Assumes nothing.
-use Rattle.std.proofs.Common.{◌≡◌, ℕ, suc, ◌+◌, ◌-◌, ◌<◌, ◌≤◌, Bool, true, false, not, ◌&&◌, eqb, ltb, List, [], ◌∷◌, ◌++◌, length, IsErrAnd, Ok, Err, Option, Result, MatchOption, sym, refl, ap, ◌∙◌, subst, true≢false, arith, length-append, length-set, Bor, ltb-false, ltb-true, le-ltb, lt-ltb, ne_eqb}
+use Rattle.std.proofs.Common.{◌≡◌, ℕ, suc, ◌+◌, ◌-◌, ◌<◌, ◌≤◌, Bool, true, false, not, ◌&&◌, eqb, ltb, List, [], ◌∷◌, ◌++◌, length, IsErrAnd, Some, None, Ok, Err, Option, Result, MatchOption, sym, refl, ap, ◌∙◌, subst, true≢false, arith, length-append, length-set, Bor, ltb-false, ltb-true, le-ltb, lt-ltb, ne_eqb}
 use Rattle.std.specs.Bool.{then_some}
+use Rattle.std.specs.Result.{result_ok}
 use Rattle.orders.specs.declared.refusal.Refusal.{Refusal}
 use Rattle.lists.specs.declared.node_line.NodeLine.{NodeLine}
 use Rattle.lists.specs.declared.filled.Filled.{Filled}
+use Rattle.lists.specs.Branches.{Small, Branches}
 use Rattle.lists.specs.Items.{items_of, room_of, Added}
 use Rattle.diagrams.specs.declared.Node.{Node}
 use Rattle.diagrams.specs.Level.{level}
@@ -17,7 +19,7 @@ use Rattle.sheets.specs.Checks.{grown, tabled_on, tabled, paired, earlier, place
 use Rattle.sheets.specs.Gives.{Gives}
 use Rattle.diagrams.specs.declared.Branch.{Branch}
 use Rattle.sheets.specs.declared.reader.Reader.{Reader}
-use Rattle.sheets.specs.Reading.{branch_line, Wide, Stays}
+use Rattle.sheets.specs.Reading.{branch_line, Stays}
 use Rattle.sheets.proofs.Keeps.{and_both, askable}
 
 tabled_on_push : (N : List Node) (ls : List NodeLine) (a : NodeLine) → tabled_on N (ls ++ (a ∷ [])) ≡ grown (tabled_on N ls) a
@@ -73,13 +75,18 @@ kept pieces N a few e =
     }
 
 -- a line with a value that is larger than that of any node keeps no rules
-pub keeps_wide : (pieces : ℕ) (N : List Node) (a : NodeLine) → length N ≤ 2046 → Wide a → keeps pieces N a ≡ false
+pub keeps_wide : (pieces : ℕ) (N : List Node) (a : NodeLine) → length N ≤ 2046 → (Small a → ⊥) → keeps pieces N a ≡ false
 keeps_wide pieces N a few wide = by (keeps pieces N a) refl
   where
     by : (b : Bool) → keeps pieces N a ≡ b → b ≡ false
     by true e =
         let k = (kept pieces N a few e).asks in
-        absurd (wide (omega (arith, k.x_max)) (omega (arith, k.x_max, k.y_below)) (omega (arith, k.lo_there, few)) (omega (arith, k.hi_there, few)))
+        absurd (wide record {
+          x_small = omega (arith, k.x_max);
+          y_small = omega (arith, k.x_max, k.y_below);
+          lo_small = omega (arith, k.lo_there, few);
+          hi_small = omega (arith, k.hi_there, few);
+        })
     by false e = refl
 
 -- the branch of a line is answered where it keeps the rules
@@ -90,6 +97,15 @@ branch_kept pieces N a b keep o is k e = subst (λ p. MatchOption p (keeps piece
     by : (t : Bool) → t ≡ keeps pieces N a → MatchOption (then_some t b) (keeps pieces N a ≡ false) (λ b. (keeps pieces N a ≡ true) × (branch_line b ≡ a))
     by true q = (sym q, e)
     by false q = sym q
+
+-- what a line says of a branch
+pub branched : (a : NodeLine) (r : Result Branch Refusal) → Branches a r → (b : Branch) → Some b ≡ result_ok r → branch_line b ≡ a
+branched a (Ok x) q b e = let same : b ≡ x = cc in ap branch_line (same ∙ q)
+branched a (Err x) q b e = cc
+
+pub too_wide : (a : NodeLine) (r : Result Branch Refusal) → Branches a r → None ≡ result_ok r → Small a → ⊥
+too_wide a (Ok x) q e = cc
+too_wide a (Err x) q e = q.1
 
 pub kept_in : (pieces : ℕ) (N : List Node) (ls : List NodeLine) (a : NodeLine) → N ≡ tabled ls → length ls < 2046 → keeps pieces N a ≡ true → (length N < 2046) × Kept N a
 kept_in pieces N ls a e room k =

@@ -1,5 +1,6 @@
 -- A value that is there, or else a fault. Assumes nothing.
-use Rattle.std.proofs.Common.{◌≡◌, IsErrAnd, Some, None, Ok, Err, Option, Result, sym, refl, ◌∙◌, subst, MatchOption, MatchResult}
+use Rattle.std.proofs.Common.{◌≡◌, ◌⊎◌, inl, inr, Bool, true, false, ap, IsErrAnd, Some, None, Ok, Err, Option, Result, sym, refl, ◌∙◌, subst, MatchOption, MatchResult}
+use Rattle.std.specs.Bool.{then_some}
 use Rattle.std.specs.Option.{ok_or}
 use Rattle.sheets.specs.declared.fault.Fault.{Fault}
 
@@ -54,3 +55,36 @@ known_ok r Yes No m a e = subst (λ s. MatchResult s Yes No) e m
 
 pub known_err : {A E : Type 0} (r : Result A E) (Yes : A → Type 0) (No : E → Type 0) → MatchResult r Yes No → (x : E) → r ≡ Err x → No x
 known_err r Yes No m x e = subst (λ s. MatchResult s Yes No) e m
+
+-- a value that has to pass a test
+module _ {A : Type 0} (o p : Option A) (Post : A → Bool → Type 0) (m : MatchOption o (p ≡ None) (λ x. (b : Bool) × Post x b × (p ≡ then_some b x)))
+    (t : A → Bool) (tests : (x : A) (b : Bool) → Post x b → b ≡ t x) where
+  by_test : (x : A) → (b : Bool) × Post x b × (p ≡ then_some b x) → p ≡ then_some (t x) x
+  by_test x q = q.2 ∙ ap (λ b. then_some b x) (tests x q.0 q.1)
+
+  pub filtered_some : (x : A) → p ≡ Some x → (o ≡ Some x) × (t x ≡ true)
+  filtered_some x e = by o m
+    where
+      then_by : (y : A) (b : Bool) → t y ≡ b → p ≡ then_some b y → (Some y ≡ Some x) × (t x ≡ true)
+      then_by y true s q =
+          let is : y ≡ x = let w = sym q ∙ e in cc in
+          (ap Some is, ap t (sym is) ∙ s)
+      then_by y false s q = cc
+
+      by : (r : Option A) → MatchOption r (p ≡ None) (λ x. (b : Bool) × Post x b × (p ≡ then_some b x)) → (r ≡ Some x) × (t x ≡ true)
+      by (Some y) q = then_by y (t y) refl (by_test y q)
+      by None q = cc
+
+  pub filtered_none : p ≡ None → (o ≡ None) ⊎ ((x : A) × (o ≡ Some x) × (t x ≡ false))
+  filtered_none e = by o m
+    where
+      then_by : (y : A) (b : Bool) → t y ≡ b → p ≡ then_some b y → t y ≡ false
+      then_by y true s q = cc
+      then_by y false s q = s
+
+      by : (r : Option A) → MatchOption r (p ≡ None) (λ x. (b : Bool) × Post x b × (p ≡ then_some b x)) → (r ≡ None) ⊎ ((x : A) × (r ≡ Some x) × (t x ≡ false))
+      by (Some y) q = inr (y, refl, then_by y (t y) refl (by_test y q))
+      by None q = inl refl
+
+pub known_some : {A : Type 0} (o : Option A) (No : Type 0) (Yes : A → Type 0) → MatchOption o No Yes → (a : A) → o ≡ Some a → Yes a
+known_some o No Yes m a e = subst (λ p. MatchOption p No Yes) e m

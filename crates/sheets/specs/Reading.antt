@@ -1,5 +1,5 @@
 -- Reading node lines: a line's values as those of a node, and what a step leaves as it was. Assumes nothing.
-use Rattle.std.specs.Prelude.{◌≡◌, ◌^◌, ◌<◌, length}
+use Rattle.std.specs.Prelude.{◌≡◌, length}
 use Rattle.lists.specs.declared.node_line.NodeLine.{NodeLine}
 use Rattle.lists.specs.Items.{room_of}
 use Rattle.diagrams.specs.declared.Branch.{Branch}
@@ -8,10 +8,6 @@ use Rattle.sheets.specs.declared.reader.Reader.{Reader}
 -- the line that says these values
 abbrev pub branch_line : Branch → NodeLine
 branch_line b = record { x = b.x; y = b.y; lo = b.lo; hi = b.hi }
-
--- a value of the line is larger than that of any node
-abbrev pub Wide : NodeLine → Type 0
-Wide a = (a.x < 2 ^ 8 → a.y < 2 ^ 8 → a.lo < 2 ^ 32 → a.hi < 2 ^ 32 → ⊥)
 
 -- the pieces are the same, and the list is the caller's still, in the memory that it had
 pub record Stays (before after : Reader) : Type 0 where

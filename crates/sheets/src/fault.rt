@@ -1,7 +1,7 @@
 // What is wrong with a sheet or a book, and where.
-ghost use Rattle.std.specs.Prelude.{◌≡◌};
+ghost use Rattle.std.specs.Prelude.{◌≡◌, Some};
 ghost use Rattle.sheets.specs.declared.fault.Fault.{Fault};
-ghost use Rattle.sheets.specs.Faults.{bad_line};
+ghost use Rattle.sheets.specs.Faults.{bad_line, part_name, shown};
 
 use orders::Refusal;
 use std::error::Error;
@@ -48,6 +48,8 @@ impl Fault {
 }
 
 impl fmt::Display for Part {
+    ghost output = { λ p. Some (part_name p) };
+
     fn fmt<W: fmt::Write>(&self, f: &mut fmt::Formatter<W>) -> fmt::Result {
         match self {
             Part::Line => write!(f, "line"),
@@ -58,15 +60,15 @@ impl fmt::Display for Part {
     }
 }
 
+// As line 4 (sheet): refused by 17.
 impl fmt::Display for Fault {
+    ghost output = { λ f. Some (shown f) };
+
     fn fmt<W: fmt::Write>(&self, f: &mut fmt::Formatter<W>) -> fmt::Result {
-        write!(
-            f,
-            "line {} ({}): refused by {}",
-            self.line,
-            self.part,
-            self.refusal.number()
-        )
+        let line = self.line;
+        let part = self.part;
+        let number = self.refusal.number();
+        write!(f, "line {line} ({part}): refused by {number}")
     }
 }
 

@@ -2,18 +2,11 @@
 ghost use Rattle.std.specs.Prelude.{◌≡◌, ◌+◌, true, false, length, MatchOption};
 ghost use Rattle.tables.specs.Rows.{rows as rows_of};
 ghost use Rattle.sheets.specs.Checks.{paired, earlier, placed, Askable, keeps};
-ghost use Rattle.sheets.specs.Reading.{branch_line, Wide};
+ghost use Rattle.sheets.specs.Reading.{branch_line};
 
 use diagrams::{Branch, level};
 use lists::NodeLine;
 use tables::Table;
-
-// The values of a line as those of a node, unless one is too large for it.
-fn narrow(line: NodeLine) -> Option<Branch>
-    ensures { MatchOption result (Wide line) (λ b. branch_line b ≡ line) }
-{
-    Branch::try_from(line).ok()
-}
 
 // Whether x and y are a pair of pieces.
 fn paired(branch: Branch, pieces: u8) -> bool
@@ -45,7 +38,7 @@ pub(crate) fn branch_of(table: &Table, pieces: u8, line: NodeLine) -> Option<Bra
         (keeps pieces (rows_of table.now) line ≡ false)
         (λ b. (keeps pieces (rows_of table.now) line ≡ true) × (branch_line b ≡ line)) }
 {
-    let branch = narrow(line)?;
+    let branch = Branch::try_from(line).ok()?;
     let keeps = paired(branch, pieces) && earlier(table, branch) && placed(table, branch);
     keeps.then_some(branch)
 }

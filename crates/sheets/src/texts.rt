@@ -88,10 +88,9 @@ pub fn line_values(text: &[u8], line: u64, count: usize) -> Result<(Fields, &[u8
         (λ f. values count line text.now ≡ Err f) }
 {
     let (first, rest) = first_line(text).ok_or(Fault::bad_line(line))?;
-    let found = fields(first).ok_or(Fault::bad_line(line))?;
-    if found.count != count {
-        return Err(Fault::bad_line(line));
-    }
+    let found = fields(first)
+        .filter(|found| found.count == count)
+        .ok_or(Fault::bad_line(line))?;
     Ok((found, rest))
 }
 

@@ -35,8 +35,8 @@ impl Reader<'_, '_> {
         ensures stays { Stays self.old self.new }
     {
         let number = self.lines.len() as u64 + FIRST_LINE;
-        let ([x, y, lo, hi], rest) = line_array::<4>(text, number)?;
-        let line = NodeLine { x, y, lo, hi };
+        let (values, rest) = line_array::<4>(text, number)?;
+        let line = NodeLine::from(values);
         let branch = branch_of(&self.table, self.pieces, line).ok_or(Fault::new(
             Refusal::BadNode,
             number,

@@ -4,7 +4,7 @@ use Rattle.tables.proofs.Rows.{rows_within}
 use Rattle.sheets.specs.Checks.{keeps}
 use Rattle.sheets.specs.Reading.{branch_line}
 use Rattle.sheets.proofs.Keeps.{askable, keeps_no_pair, keeps_not_earlier, keeps_by}
-use Rattle.sheets.proofs.Entries.{keeps_wide, branch_kept}
+use Rattle.sheets.proofs.Entries.{keeps_wide, branched, too_wide, branch_kept}
 use Rattle.sheets.proofs.rules.branch_of.Goals as goal
 use Rattle.sheets.proofs.rules.branch_of.Goals.{then-paired, else-paired, then-earlier, else-earlier}
 
@@ -13,7 +13,8 @@ returns-in_err-branch c =
     subst (λ o. MatchOption o (keeps c.args.pieces (rows c.args.table.now) c.args.line ≡ false)
     (λ b. (keeps c.args.pieces (rows c.args.table.now) c.args.line ≡ true) × (branch_line b ≡ c.args.line)))
     (sym c.from_residual.ensures)
-    (keeps_wide c.args.pieces (rows c.args.table.now) c.args.line (rows_within c.args.table.now) c.in_err-branch.ensures)
+    (keeps_wide c.args.pieces (rows c.args.table.now) c.args.line (rows_within c.args.table.now)
+    (too_wide c.args.line c.try_from.result c.try_from.ensures c.in_err-branch.ensures.value))
 
 pub placed-keeps-requires : goal.placed-keeps-requires
 placed-keeps-requires c =
@@ -45,5 +46,6 @@ returns c =
             | else-earlier w ↦ w.keeps-is ∙ w.if-earlier.false ∙ keeps_no_pair c.args.pieces N line (sym c.paired.ensures ∙ v.if-paired.false)
           ]
     ] in
+    let same = branched c.args.line c.try_from.result c.try_from.ensures c.in_ok-branch.branch c.in_ok-branch.ensures.value in
     branch_kept c.args.pieces N c.args.line c.in_ok-branch.branch c.if-earlier.keeps c.then_some.result c.then_some.ensures
-    (is ∙ ap (keeps c.args.pieces N) c.in_ok-branch.ensures) c.in_ok-branch.ensures
+    (is ∙ ap (keeps c.args.pieces N) same) same
