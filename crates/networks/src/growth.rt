@@ -1,20 +1,48 @@
 // The sets of a network, one after the other, and their sizes.
+ghost use Rattle.std.specs.Prelude.{◌≡◌, ◌≤◌, max, IfOk};
 ghost use Rattle.store.specs.Does.{Kept};
 
 use caches::Cache;
-use lists::Filled;
-use orders::{Chain, Refusal, factors};
+use orders::{Chain, Order, Refusal, factors};
+use std::alloc::Global;
+use std::collections::HashSet;
+use std::fmt;
 use store::{Handle, Store};
 
+// No store has more nodes.
+const ROOM: usize = 2046;
+
+// No network needs more exchanges than sixteen pieces do, and one more shows that nothing new comes.
+const LONGEST: u64 = 121;
+
 // How many nodes a set has; and as many if sets that differ in the standing order alone are counted once.
-#[derive(Clone, Copy)]
+#[derive(Clone, Copy, Default, PartialEq, Eq, Debug)]
 pub struct Size {
     pub nodes: u64,
     pub once: u64,
 }
 
+impl fmt::Display for Size {
+    fn fmt<W: fmt::Write>(&self, f: &mut fmt::Formatter<W>) -> fmt::Result {
+        write!(f, "{} {}", self.nodes, self.once)
+    }
+}
+
+impl Size {
+    // The larger of two sizes, each count by itself.
+    fn larger(self, other: Size) -> Size
+        ensures nodes { result.nodes ≡ max self.nodes other.nodes }
+        ensures once { result.once ≡ max self.once other.once }
+    {
+        Size {
+            nodes: self.nodes.max(other.nodes),
+            once: self.once.max(other.once),
+        }
+    }
+}
+
 // What a network comes to.
-#[derive(Clone, Copy)]
+#[derive(Clone, Copy, PartialEq, Eq, Debug)]
 pub struct Growth {
     // after how many exchanges nothing new comes
     pub steps: u64,
@@ -56,69 +84,72 @@ fn alone<G: Chain, C: Cache>(
 }
 
 // How many different sets the nodes have without the standing order.
-fn counted_once<G: Chain, C: Cache>(store: &mut Store<G, C>, nodes: usize) -> Result<u64, Refusal>
+fn counted_once<G: Chain, C: Cache>(
+    alloc: Global,
+    store: &mut Store<G, C>,
+    nodes: usize,
+) -> anyhow::Result<u64>
     requires { Kept G.table C.recalls store.old }
     ensures { Kept G.table C.recalls store.new }
 {
-    let mut room = [0u64; 2046];
-    let mut seen = Filled::new(&mut room);
+    let mut seen = HashSet::new(alloc);
+    let season = store.season();
     let standing = store.standing_set();
-    for i in 0..nodes.min(2046) as u32 {
-        let season = store.season();
-        let number = i + 2;
+    for number in 2..nodes.min(ROOM) as u32 + 2 {
         let rest = store.without(Handle { season, number }, standing)?;
-        let rest = rest.handle.number as u64;
-        if seen.find(&rest).is_none() {
-            seen.add(rest)?;
-        }
+        seen.insert(rest.handle.number)?;
     }
     Ok(seen.len() as u64)
+}
+
+// How many factors an order has: a row says of x that there is none by x itself.
+fn factors_of<G: Chain>(order: Order) -> usize {
+    factors::<G>(order)
+        .iter()
+        .zip(1..=16u8)
+        .filter(|(y, x)| **y < *x)
+        .count()
 }
 
 // The factors of all orders of a set together.
 fn factor_total<G: Chain, C: Cache>(store: &Store<G, C>, set: Handle) -> Result<u64, Refusal> {
     let mut total = 0u64;
     for k in 0..store.count(set)? {
-        let row = factors::<G>(store.order_at(set, k)?);
-        for (j, y) in row.iter().enumerate() {
-            if (*y as usize) < j + 1 {
-                total = total.saturating_add(1);
-            }
-        }
+        let order = store.order_at(set, k)?;
+        total = total.saturating_add(factors_of::<G>(order) as u64);
     }
     Ok(total)
 }
 
-// The larger of two sizes, each count by itself.
-fn larger(a: Size, b: Size) -> Size {
-    Size {
-        nodes: a.nodes.max(b.nodes),
-        once: a.once.max(b.once),
-    }
-}
-
 // Each set followed by the exchanges, until nothing new comes.
-pub fn grown<G: Chain, C: Cache>(store: &mut Store<G, C>, pieces: u8) -> Result<Growth, Refusal>
+pub fn grown<G: Chain, C: Cache>(
+    alloc: Global,
+    store: &mut Store<G, C>,
+    pieces: u8,
+) -> anyhow::Result<Growth>
     requires { Kept G.table C.recalls store.old }
+    ensures steps { IfOk result (λ g. g.steps ≤ LONGEST) }
+    ensures peak_nodes { IfOk result (λ g. g.last.nodes ≤ g.peak.nodes) }
+    ensures peak_once { IfOk result (λ g. g.last.once ≤ g.peak.once) }
 {
     let mut set = store.standing_set();
-    let mut last = Size { nodes: 0, once: 0 };
+    let mut last = Size::default();
     let mut peak = last;
-    let mut steps = 0u64;
-    for _ in 0..121 {
+    let mut steps = 0;
+    for step in 1..=LONGEST {
         let exchanges = neighbours(store, pieces)?;
         let next = store.follow(set, exchanges)?;
         if next.handle == set {
             break;
         }
-        steps = steps.saturating_add(1);
         let (kept, nodes) = alone(store, next.handle)?;
-        let once = counted_once(store, nodes)?;
+        let once = counted_once(alloc, store, nodes)?;
         last = Size {
             nodes: nodes as u64,
             once,
         };
-        peak = larger(peak, last);
+        peak = peak.larger(last);
+        steps = step;
         set = kept;
     }
     Ok(Growth {

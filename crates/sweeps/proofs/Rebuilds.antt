@@ -122,17 +122,6 @@ pegs_tell f (a ∷ pegs) (b ∷ after) e h =
     rw (one, pegs_tell f pegs after (omega arith) (λ p l. h (suc p) (omega arith)))
 
 module _ (f : Option ℕ → Option ℕ) (pegs after : List (Option ℕ)) (p : ℕ) (M : Moved f pegs after p) where
-  pub moved_more : (r : Option ℕ) → p < length pegs → r ≡ f (get_or after p empty) → Moved f pegs (set after p r) (p + 1)
-  moved_more r l e = record {
-    long = rw length-set M.long;
-    done = λ q h. at q h (ℕ_discrete q p);
-    left = λ q h. get_or-set_other after p q r empty (omega arith) ∙ M.left q (omega arith);
-  }
-    where
-      at : (q : ℕ) → q < p + 1 → Dec (q ≡ p) → get_or (set after p r) q empty ≡ f (get_or pegs q empty)
-      at q h (yes s) = rw s (get_or-set_same after p r empty (omega (arith, M.long)) ∙ e ∙ ap f (M.left p (omega arith)))
-      at q h (no s) = get_or-set_other after p q r empty s ∙ M.done q (omega arith)
-
   pub moved_end : length pegs ≤ p → after ≡ map f pegs
   moved_end h = pegs_tell f pegs after M.long (λ q l. M.done q (omega arith))
 

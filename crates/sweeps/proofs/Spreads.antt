@@ -180,13 +180,6 @@ module _ (N : List Node) (pegs : List (Option ℕ)) where
           both j q w v (yes e) = rw e (mark_keeps once hi second lo (mark_here marks lo first), mark_here once hi second)
           both j q w v (no e) = let r = M.closed j (omega arith) w v in (more _ r.0, more _ r.1)
 
-      spread_no : test marks (suc (suc i)) ≡ false → Marking N pegs i marks
-      spread_no t = record { long = M.long; roots = M.roots; real = M.real; closed = λ j q w v. both j q w v (ℕ_discrete j i) }
-        where
-          both : (j : ℕ) → i ≤ j → j < length N → test marks (suc (suc j)) ≡ true → Dec (j ≡ i) → (test marks (at N j).lo ≡ true) × (test marks (at N j).hi ≡ true)
-          both j q w v (yes e) = absurd (false≢true (sym t ∙ ap (λ (k : ℕ). test marks (suc (suc k))) (sym e) ∙ v))
-          both j q w v (no e) = M.closed j (omega arith) w v
-
     -- the last node that is left, as the walk from the last node down meets it
     module _ (left rest : List Node) (a : Node) (tail : List Node) (whole : N ≡ left ++ tail) (split : left ≡ push rest a) (marks : List Bool) (M : Marking N pegs (length left) marks) where
       pub spread_marked : test marks (length rest + 2) ≡ true → Marking N pegs (length rest) (set (set marks a.lo true) a.hi true)
@@ -194,11 +187,6 @@ module _ (N : List Node) (pegs : List (Option ℕ)) where
           let z : length rest + 2 ≡ suc (suc (length rest)) = omega arith in
           rw (last_is N left rest a tail whole split)
           (spread_yes (length rest) (last_there N left rest a tail whole split) marks (subst (λ i. Marking N pegs i marks) (one_less N left rest a tail whole split) M) (rw z at t))
-
-      pub spread_unmarked : test marks (length rest + 2) ≡ false → Marking N pegs (length rest) marks
-      spread_unmarked t =
-          let z : length rest + 2 ≡ suc (suc (length rest)) = omega arith in
-          spread_no (length rest) (last_there N left rest a tail whole split) marks (subst (λ i. Marking N pegs i marks) (one_less N left rest a tail whole split) M) (rw z at t)
 
     module _ (P : Pegs N pegs) (marks : List Bool) (M : Marking N pegs 0 marks) where
       part_marked : (n : ℕ) → Exists N n → 2 ≤ n → test marks n ≡ true → (test marks (lo_of N n) ≡ true) × (test marks (hi_of N n) ≡ true)

@@ -2,7 +2,7 @@ use Rattle.std.proofs.Common.{◌≡◌, ℕ, ◌+◌, ◌<◌, [], length, sym,
 use Rattle.tables.specs.Rows.{rows}
 use Rattle.tables.proofs.Rows.{sound_of, rows_within}
 use Rattle.sweeps.specs.Marks.{test}
-use Rattle.sweeps.proofs.Spreads.{Marking, marking_begin, parts_fit, last_there, last_is, rest_whole, spread_marked, spread_unmarked, marking_end}
+use Rattle.sweeps.proofs.Spreads.{Marking, marking_begin, parts_fit, last_there, last_is, rest_whole, spread_marked, marking_end}
 use Rattle.sweeps.proofs.marking.marked.Goals as goal
 use Rattle.sweeps.proofs.marking.marked.Goals.{In-Some}
 
@@ -49,17 +49,6 @@ loop-i-preserved-then-marks-i c =
       left = (_, rest_whole _ _ _ _ c.loop-i.invariant.left.0 c.loop-i.invariant.left.1 c.in-Some.ensures.steps.1.0);
       marking = spread_marked (rows t) c.args.pegs (sound_of t) (rows_within t) _ _ _ c.loop-i.invariant.left.0 c.loop-i.invariant.left.1 c.in-Some.ensures.steps.1.0
           c.loop-i.marks c.loop-i.invariant.marking (ap (λ (i : ℕ). test c.loop-i.marks (i + 2)) (sym h) ∙ c.if-marks-i.true);
-    }
-
-pub loop-i-preserved : goal.loop-i-preserved
-loop-i-preserved c =
-    let h = place (goal.at.loop-i-preserved c).In-Some in
-    let t = c.args.table.now in
-    record {
-      count = c.in-Some.ensures.steps.0 ∙ c.loop-i.invariant.count;
-      left = (_, rest_whole _ _ _ _ c.loop-i.invariant.left.0 c.loop-i.invariant.left.1 c.in-Some.ensures.steps.1.0);
-      marking = spread_unmarked (rows t) c.args.pegs (sound_of t) (rows_within t) _ _ _ c.loop-i.invariant.left.0 c.loop-i.invariant.left.1 c.in-Some.ensures.steps.1.0
-          c.loop-i.marks c.loop-i.invariant.marking (ap (λ (i : ℕ). test c.loop-i.marks (i + 2)) (sym h) ∙ c.if-marks-i.false);
     }
 
 pub returns : goal.returns

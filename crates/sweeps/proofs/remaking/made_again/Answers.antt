@@ -1,10 +1,10 @@
-use Rattle.std.proofs.Common.{◌≡◌, ℕ, ◌+◌, ◌<◌, List, length, subst, ap, add-one, refl, arith}
+use Rattle.std.proofs.Common.{◌≡◌, ℕ, ◌+◌, ◌<◌, List, length, ap, add-one, refl, arith}
 use Rattle.diagrams.specs.declared.Node.{Node}
 use Rattle.diagrams.specs.Table.{at}
 use Rattle.tables.specs.declared.table.Table.{Table}
 use Rattle.tables.specs.Rows.{rows}
 use Rattle.tables.proofs.Rows.{sound_of, rows_within}
-use Rattle.sweeps.specs.Marks.{test, Remaking}
+use Rattle.sweeps.specs.Marks.{test}
 use Rattle.sweeps.proofs.Spreads.{parts_fit}
 use Rattle.sweeps.proofs.Rebuilds.{remaking_begin, remaking_skip, remaking_more, remaking_room, remake_asks}
 use Rattle.sweeps.proofs.remaking.made_again.Goals as goal
@@ -66,9 +66,3 @@ loop-i-preserved c =
           _ _ _ (is t _ e c.loop-i.i l) refl refl _ _ (rw w.unwrap-new.ensures at w.node.ensures))
       | else-marks-i w ↦ rw (w.fresh-is, w.numbers-is) (remaking_skip (rows t) (test c.args.marks.now) c.loop-i.i _ _ c.loop-i.invariant w.if-marks-i.false)
     ])
-
-pub returns : goal.returns
-returns c =
-    let t = c.args.table.now in
-    let end : c.loop-i.i ≡ length (rows t) = omega (arith, c.loop-i-test.false, c.loop-i.auto.i-end, ap length c.nodes-node-items.ensures) in
-    subst (λ (i : ℕ). Remaking (rows t) (test c.args.marks.now) i (rows c.loop-i.fresh) c.loop-i.numbers) end c.loop-i.invariant
