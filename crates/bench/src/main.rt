@@ -3,7 +3,7 @@
 
 ghost use Rattle.std.specs.Prelude.{◌≤◌};
 
-use diagrams::Node;
+use diagrams::{Branch, Node};
 use std::time::Instant;
 use std::{env, io};
 use tables::{ROOM, Table};
@@ -22,7 +22,7 @@ fn asked_for_time(rt: &HostRuntime) -> io::Result<bool> {
 }
 
 // Says how many nanoseconds a search takes for a find.
-fn time_one<F: Fn(Node) -> Option<u32>>(
+fn time_one<F: Fn(Branch) -> Option<u32>>(
     rt: &HostRuntime,
     name: &str,
     nodes: &[Node],
@@ -43,11 +43,11 @@ fn time_one<F: Fn(Node) -> Option<u32>>(
 // Says it of both searches.
 fn time(rt: &HostRuntime, table: &Table, shift: u32) -> io::Result<()> {
     let nodes = table.nodes();
-    time_one(rt, "linear", nodes, LINEAR_ROUNDS, shift, |node| {
-        search::linear(table, node)
+    time_one(rt, "linear", nodes, LINEAR_ROUNDS, shift, |branch| {
+        search::linear(table, branch)
     })?;
-    time_one(rt, "hashed", nodes, HASHED_ROUNDS, shift, |node| {
-        search::hashed(table, node)
+    time_one(rt, "hashed", nodes, HASHED_ROUNDS, shift, |branch| {
+        search::hashed(table, branch)
     })
 }
 

@@ -3,7 +3,7 @@ ghost use Rattle.std.specs.Prelude.{◌<◌, ◌≤◌};
 ghost use Rattle.diagrams.specs.Table.{Exists};
 ghost use Rattle.tables.specs.Rows.{rows};
 
-use diagrams::level;
+use diagrams::{Branch, level};
 use tables::{ROOM, Table};
 
 // How many nodes are tried: many of them break a rule for nodes.
@@ -43,7 +43,7 @@ fn add(table: &mut Table, x: u8, y: u8, lo: u32, hi: u32)
     let low = table.get(lo);
     let high = table.get(hi);
     if level(low.x, low.y) < level(x, y) && high.x < x {
-        let _ = table.node(ROOM, x, y, lo, hi);
+        let _ = table.node(ROOM, Branch { x, y, lo, hi });
     }
 }
 

@@ -1,52 +1,56 @@
 // The searches, over all nodes of a table.
-use diagrams::Node;
+use diagrams::{Branch, Node};
 use tables::Table;
 
-// The number of the first node with the four values of this one, by a search from the front.
+// The number of the first node with this branch, by a search from the front.
 #[tactic(auto, using(tables::proofs::Rows::rows_within))]
-pub fn linear(table: &Table, sought: Node) -> Option<u32> {
-    let place = table.nodes().iter().position(|node| {
-        node.x == sought.x && node.y == sought.y && node.lo == sought.lo && node.hi == sought.hi
-    })?;
+pub fn linear(table: &Table, sought: Branch) -> Option<u32> {
+    let place = table
+        .nodes()
+        .iter()
+        .position(|node| node.branch() == sought)?;
     Some(place as u32 + 2)
 }
 
 // The same by hash.
-pub fn hashed(table: &Table, sought: Node) -> Option<u32> {
-    table.find(sought.x, sought.y, sought.lo, sought.hi)
+pub fn hashed(table: &Table, sought: Branch) -> Option<u32> {
+    table.find(sought)
 }
 
 // Whether both searches find the same.
-fn agree(table: &Table, sought: Node) -> bool {
+fn agree(table: &Table, sought: Branch) -> bool {
     linear(table, sought) == hashed(table, sought)
 }
 
-// How many of two finds for each node agree: with its own values, and with its parts changed for one another.
+// How many of two finds for each node agree: with its own branch, and with its parts changed for one another.
 pub fn agreed(table: &Table) -> usize {
     let nodes = table.nodes();
-    let own = nodes.iter().filter(|node| agree(table, **node)).count();
+    let own = nodes
+        .iter()
+        .filter(|node| agree(table, node.branch()))
+        .count();
     let changed = nodes
         .iter()
-        .map(|node| Node {
+        .map(|node| Branch {
             lo: node.hi,
             hi: node.lo,
-            ..*node
+            ..node.branch()
         })
-        .filter(|node| agree(table, *node))
+        .filter(|branch| agree(table, *branch))
         .count();
     own.wrapping_add(changed)
 }
 
 // How many finds hit, in some rounds over all nodes. A `shift` of 2048 makes each find a miss.
-pub fn hits<F: Fn(Node) -> Option<u32>>(nodes: &[Node], rounds: u32, shift: u32, find: F) -> usize
+pub fn hits<F: Fn(Branch) -> Option<u32>>(nodes: &[Node], rounds: u32, shift: u32, find: F) -> usize
     requires { F.IsAlwaysCallable find }
 {
     let mut hits: usize = 0;
     for _ in 0..rounds {
         for node in nodes {
-            let sought = Node {
+            let sought = Branch {
                 hi: node.hi.wrapping_add(shift),
-                ..*node
+                ..node.branch()
             };
             if find(sought).is_some() {
                 hits = hits.wrapping_add(1);

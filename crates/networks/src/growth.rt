@@ -1,6 +1,5 @@
 // The sets of a network, one after the other, and their sizes.
 ghost use Rattle.std.specs.Prelude.{◌≡◌, ◌≤◌, max, IfOk};
-ghost use Rattle.store.specs.Does.{Kept};
 
 use caches::Cache;
 use orders::{Chain, Order, Refusal, factors};
@@ -8,9 +7,7 @@ use std::alloc::Global;
 use std::collections::HashSet;
 use std::fmt;
 use store::{Handle, Store};
-
-// No store has more nodes.
-const ROOM: usize = 2046;
+use tables::ROOM;
 
 // No network needs more exchanges than sixteen pieces do, and one more shows that nothing new comes.
 const LONGEST: u64 = 121;
@@ -54,15 +51,12 @@ pub struct Growth {
 }
 
 // The standing order and the exchanges of neighbouring places.
-fn neighbours<G: Chain, C: Cache>(store: &mut Store<G, C>, pieces: u8) -> Result<Handle, Refusal>
-    requires { Kept G.table C.recalls store.old }
-    ensures { Kept G.table C.recalls store.new }
-{
+fn neighbours<G: Chain, C: Cache>(store: &mut Store<G, C>, pieces: u8) -> Result<Handle, Refusal> {
     let mut set = store.standing_set();
     for i in 1..pieces {
         let exchange = store.single(G::step(i + 1, i))?;
-        let joined = store.join(set, exchange.handle)?;
-        set = joined.handle;
+        let joined = store.join(set, exchange.set)?;
+        set = joined.set;
     }
     Ok(set)
 }
@@ -71,10 +65,7 @@ fn neighbours<G: Chain, C: Cache>(store: &mut Store<G, C>, pieces: u8) -> Result
 fn alone<G: Chain, C: Cache>(
     store: &mut Store<G, C>,
     set: Handle,
-) -> Result<(Handle, usize), Refusal>
-    requires { Kept G.table C.recalls store.old }
-    ensures { Kept G.table C.recalls store.new }
-{
+) -> Result<(Handle, usize), Refusal> {
     let hold = store.hold(set, 0)?;
     let left = store.sweep();
     let held = store.held(&hold);
@@ -88,16 +79,13 @@ fn counted_once<G: Chain, C: Cache>(
     alloc: Global,
     store: &mut Store<G, C>,
     nodes: usize,
-) -> anyhow::Result<u64>
-    requires { Kept G.table C.recalls store.old }
-    ensures { Kept G.table C.recalls store.new }
-{
+) -> anyhow::Result<u64> {
     let mut seen = HashSet::new(alloc);
     let season = store.season();
     let standing = store.standing_set();
     for number in 2..nodes.min(ROOM) as u32 + 2 {
         let rest = store.without(Handle { season, number }, standing)?;
-        seen.insert(rest.handle.number)?;
+        seen.insert(rest.set.number)?;
     }
     Ok(seen.len() as u64)
 }
@@ -127,7 +115,6 @@ pub fn grown<G: Chain, C: Cache>(
     store: &mut Store<G, C>,
     pieces: u8,
 ) -> anyhow::Result<Growth>
-    requires { Kept G.table C.recalls store.old }
     ensures steps { IfOk result (λ g. g.steps ≤ LONGEST) }
     ensures peak_nodes { IfOk result (λ g. g.last.nodes ≤ g.peak.nodes) }
     ensures peak_once { IfOk result (λ g. g.last.once ≤ g.peak.once) }
@@ -139,10 +126,10 @@ pub fn grown<G: Chain, C: Cache>(
     for step in 1..=LONGEST {
         let exchanges = neighbours(store, pieces)?;
         let next = store.follow(set, exchanges)?;
-        if next.handle == set {
+        if next.set == set {
             break;
         }
-        let (kept, nodes) = alone(store, next.handle)?;
+        let (kept, nodes) = alone(store, next.set)?;
         let once = counted_once(alloc, store, nodes)?;
         last = Size {
             nodes: nodes as u64,

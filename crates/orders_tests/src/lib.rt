@@ -80,9 +80,7 @@ mod examples {
 
     #[test]
     fn the_moves_of_both_chains(rt: HostRuntime) -> Result<(), Fail> {
-        assert!(rt;
-            orders::Swap::CODE == 1 && orders::Rotation::CODE == 2
-        );
+        assert!(rt; orders::Swap::CODE == 1 && orders::Rotation::CODE == 2);
         assert!(rt; <orders::Swap as Chain>::step(4, 2) == order([1, 4, 3, 2], 4)?);
         assert!(rt; <orders::Rotation as Chain>::step(4, 2) == order([1, 3, 4, 2], 4)?);
         assert!(rt; <orders::Swap as Chain>::step(2, 2) == Order::standing());

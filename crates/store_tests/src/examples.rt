@@ -31,16 +31,14 @@ fn and_order<G: Chain, C: Cache>(
     store: &mut Store<G, C>,
     set: Handle,
     order: Order,
-) -> Result<Handle, Fail>
-{
+) -> Result<Handle, Fail> {
     let single = store.single(order)?;
     let joined = store.join(set, single.set)?;
     Ok(joined.set)
 }
 
 // All orders of three pieces.
-fn all_six<G: Chain, C: Cache>(store: &mut Store<G, C>) -> Result<Handle, Fail>
-{
+fn all_six<G: Chain, C: Cache>(store: &mut Store<G, C>) -> Result<Handle, Fail> {
     let two = store.standing_set();
     let two = and_order(store, two, order(2, 1, 3)?)?;
     let three = and_order(store, two, order(1, 3, 2)?)?;
@@ -50,8 +48,10 @@ fn all_six<G: Chain, C: Cache>(store: &mut Store<G, C>) -> Result<Handle, Fail>
 }
 
 // The examples of sets, by any chain and cache.
-fn sets_are_right<G: Chain, C: Cache>(rt: &impl Abort, store: &mut Store<G, C>) -> Result<(), Fail>
-{
+fn sets_are_right<G: Chain, C: Cache>(
+    rt: &impl Abort,
+    store: &mut Store<G, C>,
+) -> Result<(), Fail> {
     let six = all_six(store)?;
     assert!(rt; store.count(six)? == 6);
     let picked = store.pick(six, 3, 1)?;
@@ -203,8 +203,7 @@ fn swept_on_peg<G: Chain, C: Cache>(
     store: &mut Store<G, C>,
     set: Handle,
     peg: u64,
-) -> Result<(Handle, usize), Refusal>
-{
+) -> Result<(Handle, usize), Refusal> {
     let hold = store.hold(set, peg)?;
     let left = store.sweep();
     let held = store.held(&hold);
@@ -214,8 +213,12 @@ fn swept_on_peg<G: Chain, C: Cache>(
 }
 
 // Whether a set cannot be put on a peg, by the refusal with this number.
-fn not_held<G: Chain, C: Cache>(store: &mut Store<G, C>, set: Handle, peg: u64, number: u8) -> bool
-{
+fn not_held<G: Chain, C: Cache>(
+    store: &mut Store<G, C>,
+    set: Handle,
+    peg: u64,
+    number: u8,
+) -> bool {
     match store.hold(set, peg) {
         Ok(hold) => {
             store.give_back(hold);
