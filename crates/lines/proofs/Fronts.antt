@@ -1,6 +1,6 @@
 -- Digits at the front of a text, and the number that they write. Assumes nothing.
 use Rattle.std.proofs.Common.{◌≡◌, ℕ, zero, suc, ◌+◌, ◌-◌, ◌*◌, ◌^◌, ◌<◌, ◌≤◌, List, [], ◌∷◌, ◌++◌, length, get_or, take, drop, Some, None, decimal, Option, MatchOption, sym, refl, ap, ◌∙◌, subst, arith, rules}
-use Rattle.std.proofs.lemmas.List.{drop_more, drop_all, take_more, length-take}
+use Rattle.std.proofs.lemmas.List.{take_more, length-take}
 use Rattle.std.proofs.ByRecursion.{All-take}
 use Rattle.std.specs.List.{AllByRecursion, AllWithin, HoldsAt}
 use Rattle.std.specs.Option.{unwrap_or}
@@ -42,12 +42,6 @@ pub decimal_back : (ds : List ℕ) → AllByRecursion Digit ds → Plain ds → 
 decimal_back ds p q =
     let small : read_on 0 ds < 10 ^ 14 = digits_value_short own ds 14 p q.1 in
     (decimal-digits_value own ds p q.0 q.2 (below_64 _ small), small)
-
-pub ends_here : (xs : List ℕ) (i : ℕ) → i < length xs → (Digit (get_or xs i 0) → ⊥) → Ends (drop i xs)
-ends_here xs i h n = subst Ends (sym (drop_more xs i 0 h)) n
-
-pub ends_all : (xs : List ℕ) (i : ℕ) → length xs ≤ i → Ends (drop i xs)
-ends_all xs i h = subst Ends (sym (drop_all i xs h)) tt
 
 -- one digit more
 pub read_on_push : (n : ℕ) (ds : List ℕ) (c : ℕ) → read_on n (ds ++ c ∷ []) ≡ read_on n ds * 10 + (c - 48)

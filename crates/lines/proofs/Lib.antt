@@ -1,5 +1,4 @@
 pub mod Fronts
-pub mod Cuts
 pub mod Places
 pub mod Follows
 pub mod Pages

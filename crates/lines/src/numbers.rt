@@ -6,7 +6,7 @@ mod gathering;
 // How many numbers a line may have.
 pub const MOST: usize = 16;
 
-// The first `count` values are those of the line.
+// The first `count` values are those of the line; no heap is at hand for a Vec.
 #[derive(Clone, Copy)]
 pub struct Fields {
     pub values: [u64; MOST],

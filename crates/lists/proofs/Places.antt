@@ -1,5 +1,5 @@
 -- What stands at the places of a list, and a search that goes through them. Assumes nothing.
-use Rattle.std.proofs.Common.{◌≡◌, ℕ, zero, suc, ◌+◌, ◌-◌, ◌<◌, ◌≤◌, List, [], ◌∷◌, ◌++◌, length, take, drop, set, append_assoc, append-nil, add-one, Some, None, MatchOption, Option, sym, refl, ap, ◌∙◌, ⊎_elim, arith, Bor}
+use Rattle.std.proofs.Common.{◌≡◌, ℕ, ◌+◌, ◌-◌, ◌<◌, ◌≤◌, List, [], ◌∷◌, ◌++◌, length, take, drop, set, append_assoc, append-nil, add-one, Some, None, MatchOption, Option, sym, refl, ap, ◌∙◌, ⊎_elim, arith, Bor}
 use Rattle.std.specs.List.{slice_get, AllWithin, HoldsAt}
 use Rattle.std.specs.Option.{option_map}
 use Rattle.std.specs.Slice.{IsGetResult}
@@ -32,18 +32,10 @@ module _ {X : Type 0} where
   nth_push [] x = refl
   nth_push (y ∷ xs) x = nth_push xs x
 
-  nth-append : (xs ys : List X) (i : ℕ) → i < length xs → slice_get (xs ++ ys) i ≡ slice_get xs i
-  nth-append [] ys i h = absurd (omega arith)
-  nth-append (x ∷ xs) ys zero h = refl
-  nth-append (x ∷ xs) ys (suc i) h = nth-append xs ys i (omega arith)
-
-  -- an added record is at its place, and the others are where they were
+  -- an added record is at its place
   module _ (before after : Filled X) (x : X) (place : ℕ) (grown : Grown before after x place) where
     pub grown_there : slice_get (items_of after) place ≡ Some x
     grown_there = ap (λ xs. slice_get xs place) grown.items ∙ ap (slice_get (items_of before ++ x ∷ [])) grown.last ∙ nth_push (items_of before) x
-
-    pub grown_others : (i : ℕ) → i < place → slice_get (items_of after) i ≡ slice_get (items_of before) i
-    grown_others i h = ap (λ xs. slice_get xs i) grown.items ∙ nth-append (items_of before) (x ∷ []) i (omega arith)
 
   -- what is written into a part of the memory
   pub laid_part : (p part xs : List X) (at : ℕ) → part ≡ xs → put_mid at ((at + length xs) - at) p part ≡ laid p at xs

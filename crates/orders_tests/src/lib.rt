@@ -3,7 +3,8 @@
 
 #[cfg(test)]
 mod examples {
-    use lines::{fields, first_line, order_of};
+    use lines::{fields, first_line, order_of, put_bytes, put_line};
+    use lists::Filled;
     use orders::{Chain, Order, Refusal, factors, product};
     use std::test::Fail;
 
@@ -128,6 +129,24 @@ mod examples {
         let (line, rest) = first_line(b"1 2\n3\n").ok_or("no line")?;
         assert!(rt; line.len() == 3 && rest.len() == 2);
         assert!(rt; first_line(b"1 2").is_none());
+        Ok(())
+    }
+
+    #[test]
+    fn a_line_is_put_on_a_page_where_it_fits(rt: HostRuntime) {
+        let mut room = [0u8; 8];
+        let mut page = Filled::new(&mut room);
+        assert!(rt; put_line(&mut page, &[10, 2]) == Ok(()));
+        assert!(rt; put_line(&mut page, &[7, 8]) == Err(Refusal::ShortPage));
+        assert!(rt; page.len() == 5);
+        assert!(rt; put_bytes(&mut page, b"abc") == Ok(()));
+        assert!(rt; page.items() == b"10 2\nabc".as_slice());
+    }
+
+    #[test]
+    fn a_refusal_says_why(rt: HostRuntime) -> Result<(), Fail> {
+        let told = Refusal::PegFilled.to_string(rt.alloc())?;
+        assert!(rt; told.as_str() == "the peg is not empty");
         Ok(())
     }
 }

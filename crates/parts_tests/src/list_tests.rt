@@ -81,3 +81,23 @@ fn a_node_line_that_is_there_is_not_added_again(rt: HostRuntime) {
         Err(Refusal::NoRoom)
     );
 }
+
+#[test]
+fn a_slice_is_added_whole_or_not_at_all(rt: HostRuntime) {
+    let mut room = [0u64; 3];
+    let mut list = Filled::new(&mut room);
+    assert_eq!(rt; list.extend(&[30, 40]), Ok(()));
+    assert_eq!(rt; list.extend(&[50, 60]), Err(Refusal::NoRoom));
+    assert_eq!(rt; list.len(), 2);
+    assert_eq!(rt; list.read(1), Ok(40));
+    assert_eq!(rt; list.extend(&[50]), Ok(()));
+    assert_eq!(rt; list.read(2), Ok(50));
+}
+
+#[test]
+fn a_node_line_is_made_of_its_numbers_and_back(rt: HostRuntime) {
+    assert!(rt; NodeLine::from([2, 1, 1, 1]) == LEAF);
+    let [x, y, lo, hi] = <[u64; 4]>::from(LEAF);
+    assert!(rt; x == 2 && y == 1 && lo == 1 && hi == 1);
+    assert!(rt; NodeLine::default() == NodeLine::from([0; 4]));
+}
