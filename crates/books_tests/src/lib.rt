@@ -21,7 +21,7 @@ mod examples {
     // The code of a row of three.
     fn code(a: u8, b: u8, c: u8) -> Result<u64, Fail> {
         let order = Order::from_row([a, b, c, 0, 0, 0, 0, 0, 0, 0, 0, 0, 0, 0, 0, 0], 3)?;
-        Ok(order.into())
+        Ok(u64::from(order))
     }
 
     #[test]

@@ -22,7 +22,8 @@ pub(crate) fn read_top(text: &[u8], chain: u8) -> Result<TopLines<'_>, Fault>
         (λ f. top chain text.now ≡ Err f) }
 {
     let text = after_head(text)?;
-    let ([code, nodes, orders], text) = line_array::<3>(text, 2)?;
+    let (values, text) = line_array::<3>(text, 2)?;
+    let [code, nodes, orders] = values;
     let nodes = nodes as usize;
     if nodes > ROOM {
         return Err(Fault::bad_line(2));
