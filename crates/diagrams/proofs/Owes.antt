@@ -1,5 +1,5 @@
 -- Every kind of work keeps what the engine asks. Assumes nothing.
-use Rattle.std.proofs.Common.{◌≡◌, ℕ, ◌+◌, ◌<◌, ◌≤◌, Bool, true, false, cond, not, ◌&&◌, ◌||◌, eqb, ltb, ◌⊎◌, List, sym, refl, ◌∙◌, subst, inl, inr, add_comm, arith, ltb-false, ltb-true, eqb-true}
+use Rattle.std.proofs.Common.{◌≡◌, ℕ, ◌+◌, ◌<◌, ◌≤◌, Bool, true, false, not, ◌&&◌, ◌||◌, eqb, ◌⊎◌, List, sym, refl, ◌∙◌, subst, inl, inr, add_comm, arith, eqb-true}
 use mathlib.Core.Bool.{or-false, or_self}
 use borrow.Author.Tests.{eqb-false}
 use Rattle.orders.specs.declared.order.Order.{Order}
