@@ -1,6 +1,4 @@
 // Sheets, good and damaged.
-ghost use Rattle.store.specs.Does.{Kept};
-
 use caches::{Blank, Cache, Slots};
 use deposits::{read, write};
 use orders::{Chain, Order, Swap};
@@ -21,18 +19,15 @@ fn order(a: u8, b: u8, c: u8) -> Result<Order, Fail> {
 }
 
 // All orders of three pieces.
-fn all_six<G: Chain, C: Cache>(store: &mut Store<G, C>) -> Result<Handle, Fail>
-    requires { Kept G.table C.recalls store.old }
-    ensures { Kept G.table C.recalls store.new }
-{
+fn all_six<G: Chain, C: Cache>(store: &mut Store<G, C>) -> Result<Handle, Fail> {
     let first = store.single(order(2, 1, 3)?)?;
     let second = store.single(order(1, 3, 2)?)?;
     let standing = store.standing_set();
-    let two = store.join(standing, first.handle)?;
-    let three = store.join(two.handle, second.handle)?;
-    let five = store.follow(three.handle, three.handle)?;
-    let six = store.follow(five.handle, three.handle)?;
-    Ok(six.handle)
+    let two = store.join(standing, first.set)?;
+    let three = store.join(two.set, second.set)?;
+    let five = store.follow(three.set, three.set)?;
+    let six = store.follow(five.set, three.set)?;
+    Ok(six.set)
 }
 
 // Whether a store of so many pieces and nodes refuses the sheet by this number, with this line and part.
