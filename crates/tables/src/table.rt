@@ -5,8 +5,8 @@ ghost use Rattle.tables.specs.Hashing.{Heads, Links};
 
 use diagrams::Node;
 
+mod buckets;
 mod finding;
-mod hashing;
 mod making;
 mod reading;
 

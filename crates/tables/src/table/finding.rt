@@ -3,7 +3,7 @@ ghost use Rattle.std.specs.Prelude.{◌≡◌};
 ghost use Rattle.tables.specs.Rows.{rows, found};
 
 use super::Table;
-use super::hashing::bucket;
+use super::buckets::bucket;
 use diagrams::Branch;
 
 impl Table {

@@ -5,7 +5,7 @@ ghost use Rattle.diagrams.specs.Rules.{Asks, node as node_rule};
 ghost use Rattle.tables.specs.Rows.{rows, Makes};
 
 use super::Table;
-use super::hashing::bucket;
+use super::buckets::bucket;
 use diagrams::{Branch, Node};
 use orders::Refusal;
 

@@ -1,7 +1,7 @@
 use Rattle.std.proofs.Common.{◌%◌, ap, ◌∙◌, rules}
 use Rattle.hashing.specs.Stirring.{stirred}
 use Rattle.tables.specs.Hashing.{bucket}
-use Rattle.tables.proofs.table.hashing.bucket.Goals as goal
+use Rattle.tables.proofs.table.buckets.bucket.Goals as goal
 
 pub returns : goal.returns
 unfolding bucket
