@@ -1,8 +1,4 @@
 // Sheets, good and damaged.
-<<<<<<< HEAD
-
-=======
->>>>>>> b9010f4bcc5f1dbf46180313721624d868573d51
 use caches::{Blank, Cache, Slots};
 use deposits::{read, write};
 use orders::{Chain, Order, Swap};
