@@ -43,15 +43,14 @@ pub fn hits<F: Fn(Node) -> Option<u32>>(nodes: &[Node], rounds: u32, shift: u32,
 {
     let mut hits: usize = 0;
     for _ in 0..rounds {
-        for node in nodes {
+        let found = nodes.iter().filter(|node| {
             let sought = Node {
                 hi: node.hi.wrapping_add(shift),
-                ..*node
+                ..**node
             };
-            if find(sought).is_some() {
-                hits = hits.wrapping_add(1);
-            }
-        }
+            find(sought).is_some()
+        });
+        hits = hits.wrapping_add(found.count());
     }
     hits
 }
