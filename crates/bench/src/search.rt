@@ -47,15 +47,14 @@ pub fn hits<F: Fn(Branch) -> Option<u32>>(nodes: &[Node], rounds: u32, shift: u3
 {
     let mut hits: usize = 0;
     for _ in 0..rounds {
-        for node in nodes {
+        let found = nodes.iter().filter(|node| {
             let sought = Branch {
                 hi: node.hi.wrapping_add(shift),
                 ..node.branch()
             };
-            if find(sought).is_some() {
-                hits = hits.wrapping_add(1);
-            }
-        }
+            find(sought).is_some()
+        });
+        hits = hits.wrapping_add(found.count());
     }
     hits
 }
