@@ -31,6 +31,7 @@ pub struct Engine<G: Chain, C: Cache> {
     ghost kept: { ∥ Kept G.table room.nodes (rows table) (C.recalls cache) ∥₁ },
 }
 
+// Each call that changes the engine says that its room stays: that is of two states, and no fact of the type.
 impl<G: Chain, C: Cache> Engine<G, C> {
     // An engine with no node, over a cache that is emptied.
     pub fn new(room: Room, chain: G, mut memory: C) -> Engine<G, C>
@@ -112,21 +113,26 @@ impl<G: Chain, C: Cache> Engine<G, C> {
         let low = self.solve(plan.low)?;
         match plan.rest {
             Rest::Pass => Ok(low),
-            Rest::Over(x, y, hi) => self.made(x, y, low.set, hi, low.entries),
-            Rest::Lift(x, y) => self.made(x, y, 0, low.set, low.entries),
+            Rest::Over(x, y, hi) => {
+                let lo = low.set;
+                self.made(Branch { x, y, lo, hi }, low.entries)
+            }
+            Rest::Lift(x, y) => {
+                let hi = low.set;
+                self.made(Branch { x, y, lo: 0, hi }, low.entries)
+            }
             Rest::Then(next, last) => {
                 let high = self.solve(next)?;
                 let entries = low.entries.saturating_add(high.entries);
                 match last {
-                    Last::Both(x, y) => self.made(x, y, low.set, high.set, entries),
+                    Last::Both(x, y) => {
+                        let (lo, hi) = (low.set, high.set);
+                        self.made(Branch { x, y, lo, hi }, entries)
+                    }
                     Last::Join => self.joined(low.set, high.set, entries),
                     Last::Raise(x, y) => {
-                        let top = self.add(Branch {
-                            x,
-                            y,
-                            lo: 0,
-                            hi: high.set,
-                        })?;
+                        let hi = high.set;
+                        let top = self.add(Branch { x, y, lo: 0, hi })?;
                         self.joined(low.set, top, entries)
                     }
                     Last::Move(order) => {
@@ -140,12 +146,12 @@ impl<G: Chain, C: Cache> Engine<G, C> {
     }
 
     // The last step of a rule that ends in a node, after so many entries.
-    fn made(&mut self, x: u8, y: u8, lo: u32, hi: u32, entries: u64) -> Result<Found<u32>, Refusal>
-        requires { Asks (rows self.old.table) x y lo hi }
-        ensures rule { Does G.table self.old.room.nodes (Forgets C C.recalls) (rows self.old.table) entries (make x y lo hi answer) (rows self.new.table) result }
+    fn made(&mut self, branch: Branch, entries: u64) -> Result<Found<u32>, Refusal>
+        requires { Asks (rows self.old.table) branch.x branch.y branch.lo branch.hi }
+        ensures rule { Does G.table self.old.room.nodes (Forgets C C.recalls) (rows self.old.table) entries (make branch.x branch.y branch.lo branch.hi answer) (rows self.new.table) result }
         ensures room { self.new.room ≡ self.old.room }
     {
-        let set = self.add(Branch { x, y, lo, hi })?;
+        let set = self.add(branch)?;
         Ok(Found { set, entries })
     }
 

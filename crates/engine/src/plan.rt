@@ -1,4 +1,5 @@
-// A plan: the rule of a task that is not outright, as it was read off the table.
+// A plan: the rule of a task that is not outright, as it was read off the table. It is data and no closure, because the
+// table, which it was read from, changes while it is done; and so it can be compared with the rule.
 use diagrams::Task;
 use orders::Order;
 
@@ -35,7 +36,8 @@ pub enum Last {
     Move(Order),
 }
 
-// Work on two sets, whose orders are told by which of the two have them.
+// Work on two sets, whose orders are told by which of the two have them. `Task` itself keeps a case for each of the three:
+// what is proved of a task names its cases.
 #[derive(Clone, Copy)]
 pub enum Pairing {
     Join,

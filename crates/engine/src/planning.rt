@@ -1,4 +1,5 @@
-// The plans of tasks, one function for each kind.
+// The plans of tasks, one function for each kind. That a number has a set stands in the contracts: a number goes into tasks
+// and nodes, and stays when the table that it is read from is lent again, so no type can hold the fact.
 ghost use Rattle.std.specs.Ordering.{nat_cmp};
 ghost use Rattle.std.specs.Prelude.{◌≡◌, ℕ, false, None, ◌==◌, nat_lt};
 ghost use Rattle.orders.specs.Orders.{place};
@@ -17,18 +18,18 @@ use std::cmp::Ordering;
 use tables::Table;
 
 // The plan of a task that is not outright.
-pub fn plan<G: Chain>(nodes: &Table, task: Task) -> Plan
-    requires valid { Valid (rows nodes.now) task }
+pub fn plan<G: Chain>(table: &Table, task: Task) -> Plan
+    requires valid { Valid (rows table.now) task }
     requires work { outright_of task ≡ None }
-    ensures { script result ≡ body G.table (rows nodes.now) task }
+    ensures { script result ≡ body G.table (rows table.now) task }
 {
     match task {
-        Task::Join(a, b) => paired(nodes, Pairing::Join, a, b),
-        Task::Meet(a, b) => paired(nodes, Pairing::Meet, a, b),
-        Task::Without(a, b) => paired(nodes, Pairing::Without, a, b),
-        Task::Carry(a, h) => carry::<G>(nodes, a, h),
-        Task::Follow(a, b) => follow::<G>(nodes, a, b),
-        Task::Pick(a, k, p) => pick::<G>(nodes, a, k, p),
+        Task::Join(a, b) => paired(table, Pairing::Join, a, b),
+        Task::Meet(a, b) => paired(table, Pairing::Meet, a, b),
+        Task::Without(a, b) => paired(table, Pairing::Without, a, b),
+        Task::Carry(a, h) => carry::<G>(table, a, h),
+        Task::Follow(a, b) => follow::<G>(table, a, b),
+        Task::Pick(a, k, p) => pick::<G>(table, a, k, p),
     }
 }
 
@@ -66,14 +67,14 @@ impl Pairing {
 }
 
 // Work on two sets: at the higher of their levels each is taken apart.
-fn paired(nodes: &Table, pairing: Pairing, a: u32, b: u32) -> Plan
-    requires left { Exists (rows nodes.now) a }
-    requires right { Exists (rows nodes.now) b }
-    ensures { script result ≡ paired_body pairing a b (row (rows nodes.now) a) (row (rows nodes.now) b) (nat_cmp (level_of (rows nodes.now) a) (level_of (rows nodes.now) b)) }
+fn paired(table: &Table, pairing: Pairing, a: u32, b: u32) -> Plan
+    requires left { Exists (rows table.now) a }
+    requires right { Exists (rows table.now) b }
+    ensures { script result ≡ paired_body pairing a b (row (rows table.now) a) (row (rows table.now) b) (nat_cmp (level_of (rows table.now) a) (level_of (rows table.now) b)) }
 {
-    let p = nodes.get(a);
-    let q = nodes.get(b);
-    match nodes.cmp_levels(a, b) {
+    let p = table.get(a);
+    let q = table.get(b);
+    match table.cmp_levels(a, b) {
         Ordering::Equal => Plan {
             low: pairing.task(p.lo, q.lo),
             rest: Rest::Then(pairing.task(p.hi, q.hi), Last::Both(p.x, p.y)),
@@ -90,11 +91,11 @@ fn paired(nodes: &Table, pairing: Pairing, a: u32, b: u32) -> Plan
 }
 
 // The orders with piece k in place p.
-fn pick<G: Chain>(nodes: &Table, a: u32, k: u8, p: u8) -> Plan
-    requires { Exists (rows nodes.now) a }
-    ensures { script result ≡ pick_body (row (rows nodes.now) a) a k p (from_of G.table (row (rows nodes.now) a) p) false false (k == p) }
+fn pick<G: Chain>(table: &Table, a: u32, k: u8, p: u8) -> Plan
+    requires { Exists (rows table.now) a }
+    ensures { script result ≡ pick_body (row (rows table.now) a) a k p (from_of G.table (row (rows table.now) a) p) false false (k == p) }
 {
-    let node = nodes.get(a);
+    let node = table.get(a);
     let from = G::step(node.x, node.y).inverse().place(p);
     Plan {
         low: Task::Pick(node.lo, k, p),
@@ -103,11 +104,11 @@ fn pick<G: Chain>(nodes: &Table, a: u32, k: u8, p: u8) -> Plan
 }
 
 // Each order of a followed by each of b.
-fn follow<G: Chain>(nodes: &Table, a: u32, b: u32) -> Plan
-    requires { Exists (rows nodes.now) b }
-    ensures { script result ≡ follow_body G.table (row (rows nodes.now) b) a b false false }
+fn follow<G: Chain>(table: &Table, a: u32, b: u32) -> Plan
+    requires { Exists (rows table.now) b }
+    ensures { script result ≡ follow_body G.table (row (rows table.now) b) a b false false }
 {
-    let q = nodes.get(b);
+    let q = table.get(b);
     Plan {
         low: Task::Follow(a, q.lo),
         rest: Rest::Then(Task::Follow(a, q.hi), Last::Move(G::step(q.x, q.y))),
@@ -116,11 +117,11 @@ fn follow<G: Chain>(nodes: &Table, a: u32, b: u32) -> Plan
 
 // The orders of a followed by h. Where h moves a piece above those of a, that move comes last, over all the rest. Elsewhere
 // the two parts of a are carried apart and then joined: what h makes of them need not be the two parts of one node.
-fn carry<G: Chain>(nodes: &Table, a: u32, h: Order) -> Plan
-    requires { Exists (rows nodes.now) a }
-    ensures { script result ≡ carry_body G.table (row (rows nodes.now) a) a h false false (nat_lt (x_of (rows nodes.now) a) (dimension h)) }
+fn carry<G: Chain>(table: &Table, a: u32, h: Order) -> Plan
+    requires { Exists (rows table.now) a }
+    ensures { script result ≡ carry_body G.table (row (rows table.now) a) a h false false (nat_lt (x_of (rows table.now) a) (dimension h)) }
 {
-    let p = nodes.get(a);
+    let p = table.get(a);
     let d = h.dimension();
     if p.x < d {
         let z = h.place(d);

@@ -6,7 +6,7 @@ use Rattle.engine.proofs.engine.Engine.made.Goals as goal
 pub returns-in_err-set : goal.returns-in_err-set
 returns-in_err-set g c = record {
   rule = λ n _. node_refused g.G.Chain.table c.args.self.now.room.nodes (Forgets g.row.C.Denot g.C.Cache.recalls) (rows c.args.self.now.table)
-      c.args.x c.args.y c.args.lo c.args.hi c.add.new.self.table n
+      c.args.branch.x c.args.branch.y c.args.branch.lo c.args.branch.hi c.add.new.self.table n
       c.in_err-set.field-0.0 c.in_err-set.ensures.rule c.from_residual.result c.from_residual.ensures.1;
   room = c.add.ensures.room;
 }
@@ -14,7 +14,7 @@ returns-in_err-set g c = record {
 pub returns : goal.returns
 returns g c = record {
   rule = λ n. node_answered g.G.Chain.table c.args.self.now.room.nodes (Forgets g.row.C.Denot g.C.Cache.recalls) (rows c.args.self.now.table)
-      c.args.x c.args.y c.args.lo c.args.hi c.add.new.self.table n
+      c.args.branch.x c.args.branch.y c.args.branch.lo c.args.branch.hi c.add.new.self.table n
       c.in_ok-set.set c.in_ok-set.ensures.rule c.args.entries;
   room = c.add.ensures.room;
 }
