@@ -3,7 +3,7 @@ ghost use Rattle.std.specs.Prelude.{◌≡◌, ◌≤◌};
 
 use orders::Refusal;
 
-// What keeps a set on its peg over sweeps. It must be given back by `release`: letting it go is refused, since its `drop`
+// What keeps a set on its peg over sweeps. It must be given back, by `release` or by `give_back`: letting it go is refused, since its `drop`
 // asks for what nobody can show. Every hold is on one of the 64 pegs, 0 to 63: only a store makes holds.
 pub struct Hold {
     pub(crate) mark: u32,

@@ -8,7 +8,8 @@ pub struct Handle {
     pub number: u32,
 }
 
-// A call that works out a set. S is how it names a set, and N how it names a piece and a place.
+// A call that works out a set. S is how it names a set, and N how it names a piece and a place. It is not the engine's task:
+// a task has no single order in it, its sets are numbers, and it is asked only once the call's questions are answered.
 #[derive(Clone, Copy)]
 pub enum SetCall<S, N> {
     // the order alone

@@ -24,7 +24,7 @@ pub struct Store<G: Chain, C: Cache> {
     season: u32,
     pegs: [Option<u32>; PEGS],
     engine: Engine<G, C>,
-    ghost racked: { length pegs ≡ 64 },
+    ghost long: { length pegs ≡ 64 },
     ghost pegged: { Pegged (rows engine.table) pegs },
     ghost roomed: { engine.room ≡ plan.room },
 }

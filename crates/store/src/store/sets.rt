@@ -1,4 +1,4 @@
-// The calls that work out a set.
+// The calls that work out a set. Each is `work` of its own call; they stand beside it because members know them by name.
 ghost use Rattle.store.specs.Does.{WorksOut};
 
 use super::Store;

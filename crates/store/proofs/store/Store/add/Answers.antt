@@ -29,7 +29,7 @@ invariant_of-self g c =
     let s = c.args.self.now in
     let b = c.in_ok-branch.ensures in
     record {
-      racked = s.racked;
+      long = s.long;
       pegged = pegged_more (rows s.engine.table) _ s.pegs
           (add_grown g.G.Chain.table _ (rows s.engine.table) (sound_of s.engine.table) _ _ _ _ (rw b.is (keeps_asks _ _ _ _ _ b.keeps).0) _ _ (c.add.ensures.rule 0)) s.pegged;
       roomed = c.add.ensures.room ∙ s.roomed;

@@ -4,7 +4,7 @@ use Rattle.store.proofs.Racks.{none_pegged, unpegged}
 use Rattle.store.proofs.store.Store.begin.Goals as goal
 
 pub invariant_of-result : goal.invariant_of-result
-invariant_of-result g c = record { racked = refl; pegged = none_pegged (rows c.new.result.table) 64; roomed = c.new.ensures.room ∙ c.room.ensures }
+invariant_of-result g c = record { long = refl; pegged = none_pegged (rows c.new.result.table) 64; roomed = c.new.ensures.room ∙ c.room.ensures }
 
 pub returns : goal.returns
 returns g c = record {

@@ -21,7 +21,7 @@ invariant_of-self g c =
     let yes = accepted _ _ _ c.in_ok-number.ensures in
     let there : Exists w.nodes c.in_ok-number.number = rw yes.1 (handle_there w c.args.handle yes.0).1 in
     record {
-      racked = rw length-set s.racked;
+      long = rw length-set s.long;
       roomed = s.roomed;
       pegged = pegged_set w.nodes s.pegs c.args.peg (Some c.in_ok-number.number) s.pegged (λ n e. some_there w.nodes _ n there e);
     }
@@ -46,5 +46,5 @@ returns g c =
         most = zero-le;
         just = λ never. refl;
       };
-      given = (holds_stand t).given w v s.racked h p (record { mark = c.mark.result; peg = p }) after;
+      given = (holds_stand t).given w v s.long h p (record { mark = c.mark.result; peg = p }) after;
     }

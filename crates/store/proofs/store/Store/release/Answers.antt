@@ -14,7 +14,7 @@ pub invariant_of-self : goal.invariant_of-self
 invariant_of-self g c =
     let s = c.args.self.now in
     let w = view s in
-    record { racked = rw length-set s.racked; roomed = s.roomed; pegged = pegged_set w.nodes s.pegs c.spend-peg.result None s.pegged (none_there w.nodes) }
+    record { long = rw length-set s.long; roomed = s.roomed; pegged = pegged_set w.nodes s.pegs c.spend-peg.result None s.pegged (none_there w.nodes) }
 
 pub returns : goal.returns
 returns g c =

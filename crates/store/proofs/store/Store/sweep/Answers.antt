@@ -33,7 +33,7 @@ invariant_of-self g c =
     ap rows c.replace.ensures.table ∙ c.sweep.ensures.nodes ∙ ap (λ t. swept (rows t) P) c.table.ensures in
     let pegs : c.sweep.result.pegs ≡ pegs_after N P = c.sweep.ensures.held ∙ ap (λ t. pegs_after (rows t) P) c.table.ensures in
     record {
-      racked = ap length pegs ∙ pegs_long N P ∙ s.racked;
+      long = ap length pegs ∙ pegs_long N P ∙ s.long;
       roomed = c.replace.ensures.room ∙ s.roomed;
       pegged = λ p n e. rw nodes (pegs_there N P (sound_of s.engine.table) s.pegged p n (ap (λ l. get_or l p None) (sym pegs) ∙ e));
     }

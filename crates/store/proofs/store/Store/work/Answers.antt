@@ -26,7 +26,7 @@ invariant_of-self g c =
     let yes = accepted _ _ _ c.in_ok-task.ensures in
     let v = subst (Valid w.nodes) (sym yes.1) (valid w c.args.call yes.0) in
     record {
-      racked = s.racked;
+      long = s.long;
       pegged = pegged_more w.nodes _ s.pegs (grown _ g.G.Chain.table g.met.G.Chain.laws _ w.nodes c.in_ok-task.task (sound_of s.engine.table) v _ _ c.solve.ensures.rule) s.pegged;
       roomed = c.solve.ensures.room ∙ s.roomed;
     }
