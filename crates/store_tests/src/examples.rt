@@ -22,6 +22,7 @@ fn line(x: u64, y: u64, lo: u64, hi: u64) -> NodeLine {
 }
 
 // Whether a call is declined by the refusal with this number.
+// By number: the numbers are fixed, and files tell refusals by them.
 fn is_declined<T: Drop>(res: Result<T, Refusal>, number: u8) -> bool {
     res.is_err_and(|refusal| refusal.number() == number)
 }
