@@ -213,7 +213,7 @@ fn swept_on_peg<G: Chain, C: Cache>(
     Ok((held?, nodes))
 }
 
-// Whether a set cannot be put on a peg, by the refusal with this number.
+// Whether a set cannot be put on a peg, by the refusal with this number; by number here too.
 fn not_held<G: Chain, C: Cache>(
     store: &mut Store<G, C>,
     set: Handle,
