@@ -1,6 +1,6 @@
+// Row books, good and damaged.
 #![tactic(auto)]
 
-// Row books, good and damaged.
 #[cfg(test)]
 mod examples {
     use books::{Book, line_of, read_book};
@@ -10,6 +10,7 @@ mod examples {
     use std::test::Fail;
 
     // Whether a list with room for two orders refuses the book by this number, with this line and part.
+    // By number: the numbers are fixed, and files tell refusals by them.
     fn refused(bytes: &[u8], number: u8, line: u64, part: Part) -> bool {
         let mut room = [0; 2];
         let mut list = Filled::new(&mut room);
@@ -18,10 +19,9 @@ mod examples {
         })
     }
 
-    // The code of a row of three.
-    fn code(a: u8, b: u8, c: u8) -> Result<u64, Fail> {
-        let order = Order::from_row([a, b, c, 0, 0, 0, 0, 0, 0, 0, 0, 0, 0, 0, 0, 0], 3)?;
-        Ok(u64::from(order))
+    // The order of a row of three.
+    fn order(a: u8, b: u8, c: u8) -> Result<Order, Fail> {
+        Ok(Order::from_row([a, b, c, 0, 0, 0, 0, 0, 0, 0, 0, 0, 0, 0, 0, 0], 3)?)
     }
 
     #[test]
@@ -37,18 +37,12 @@ mod examples {
         );
         assert!(rt;
             list.len() == 2
-                && list.read(0) == Ok(code(1, 2, 3)?)
-                && list.read(1) == Ok(code(2, 1, 3)?)
+                && list.read(0) == Ok(order(1, 2, 3)?.into())
+                && list.read(1) == Ok(order(2, 1, 3)?.into())
         );
         assert!(rt; line_of(&list, Order::standing()) == Some(4));
-        let Some(swap) = Order::from_code(code(2, 1, 3)?) else {
-            return Err(Fail::new("no order"));
-        };
-        assert!(rt; line_of(&list, swap) == Some(5));
-        let Some(turn) = Order::from_code(code(2, 3, 1)?) else {
-            return Err(Fail::new("no order"));
-        };
-        assert!(rt; line_of(&list, turn) == None);
+        assert!(rt; line_of(&list, order(2, 1, 3)?) == Some(5));
+        assert!(rt; line_of(&list, order(2, 3, 1)?) == None);
         Ok(())
     }
 
@@ -72,7 +66,7 @@ mod examples {
         let mut room = [0; 1];
         let mut list = Filled::new(&mut room);
         assert!(rt; read_book(b"pieces chain\n3 1\norder\n2 3 1\n1 2\n", &mut list).is_err());
-        assert!(rt; list.len() == 1 && list.read(0) == Ok(code(2, 3, 1)?));
+        assert!(rt; list.len() == 1 && list.read(0) == Ok(order(2, 3, 1)?.into()));
         assert!(rt; read_book(b"", &mut list).is_err() && list.len() == 0);
         Ok(())
     }

@@ -9,6 +9,7 @@ use store::{Handle, Plan, Store};
 // The sheet of all orders of three pieces, by swaps.
 const SIX: &[u8] = b"chain nodes orders\n1 3 6\nx y lo hi\n2 1 1 1\n3 2 2 2\n3 1 3 2\n";
 
+// A plan in season 7 with mark 5.
 fn plan(pieces: u64, capacity: u64) -> Result<Plan, Fail> {
     Ok(Plan::new(pieces, capacity, 7, 5)?)
 }
@@ -31,6 +32,7 @@ fn all_six<G: Chain, C: Cache>(store: &mut Store<G, C>) -> Result<Handle, Fail> 
 }
 
 // Whether a store of so many pieces and nodes refuses the sheet by this number, with this line and part.
+// By number: the numbers are fixed, and files tell refusals by them.
 fn refused(
     text: &[u8],
     pieces: u64,

@@ -14,6 +14,7 @@ use std::io::Read;
 fn account_of(heap: Global, input: &[u8]) -> Result<String, AllocError> {
     let mut account = Account::new(heap);
     let mut rest = input;
+    // Each step says itself how much it took, so there is no list of lines to go over.
     while !rest.is_empty() {
         let (line, after) = next_line(rest);
         account.tell(line)?;

@@ -9,18 +9,12 @@ use orders::{Order, Refusal};
 pub fn next_line(text: &[u8]) -> (&[u8], &[u8])
     ensures { Cut text.now result.0.now result.1.now }
 {
-    match first_line(text) {
-        Some(cut) => cut,
-        None => (text, &[]),
-    }
+    first_line(text).unwrap_or((text, &[]))
 }
 
 // The order that a line writes out as a row of numbers.
 pub fn order_in(line: &[u8]) -> Result<Order, Refusal>
     ensures { MatchResult result (Row line.now) (NoRow line.now) }
 {
-    match fields(line) {
-        Some(row) => order_of(row),
-        None => Err(Refusal::BadRow),
-    }
+    order_of(fields(line).ok_or(Refusal::BadRow)?)
 }

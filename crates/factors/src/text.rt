@@ -17,14 +17,12 @@ impl fmt::Display for Factors {
 
     fn fmt<W: fmt::Write>(&self, f: &mut fmt::Formatter<W>) -> fmt::Result {
         let mut none = true;
-        let mut rest = &self.row[..];
-        while let Some((y, below)) = rest.split_last() {
-            let x = rest.len();
+        for (j, y) in self.row.iter().enumerate().rev() {
+            let x = j + 1;
             if (*y as usize) < x {
                 write!(f, " ({x},{y})")?;
                 none = false;
             }
-            rest = below;
         }
         if none {
             write!(f, " none")?;

@@ -1,10 +1,11 @@
 -- What is read off a text is what would be written. Assumes nothing.
-use Rattle.std.proofs.Common.{◌≡◌, ℕ, ◌^◌, ◌<◌, ◌≤◌, Bool, true, false, ◌&&◌, eqb, ltb, List, [], ◌∷◌, ◌++◌, map, length, Some, None, decimal, Option, sym, refl, ap, ◌∙◌, subst, ap₂, true≢false, append-nil, arith, length-take-le, Bor, ltb-true, lt-ltb, ne_eqb, eqb-true, MatchOption}
+use Rattle.std.proofs.Common.{◌≡◌, ℕ, ◌^◌, ◌<◌, ◌≤◌, Bool, true, false, ◌&&◌, eqb, ltb, List, [], ◌∷◌, ◌++◌, map, length, Some, None, decimal, Option, sym, refl, ap, ◌∙◌, subst, ap₂, append-nil, arith, length-take-le, Bor, ltb-true, lt-ltb, ne_eqb, eqb-true, MatchOption}
 use borrow.Author.Tests.{eqb-false}
 use lib.ListN.{length-map}
 use Rattle.std.specs.Option.{option_map}
 use Rattle.std.specs.List.{AllByRecursion}
 use Rattle.std.specs.Str.{bytes_eq}
+use Rattle.std.proofs.lemmas.Bool.{and_parts}
 use Rattle.std.proofs.lemmas.Slice.Eq.{bytes_eq-Decides}
 use Rattle.std.proofs.lemmas.Fmt.{digits_value-decimal}
 use Rattle.lines.specs.declared.numbers.Fields.{Fields}
@@ -79,13 +80,9 @@ below_values : (ns : List ℕ) → Values ns → below ns ≡ true
 below_values [] v = refl
 below_values (n ∷ ns) v = ap₂ ◌&&◌ (lt-ltb n (10 ^ 14) v.0) (below_values ns v.1)
 
-and_both : (a b : Bool) → (a && b) ≡ true → (a ≡ true) × (b ≡ true)
-and_both true b h = (refl, h)
-and_both false b h = absurd (true≢false (sym h))
-
 values_below : (ns : List ℕ) → below ns ≡ true → Values ns
 values_below [] e = tt
-values_below (n ∷ ns) e = let p = and_both _ _ e in (ltb-true _ _ p.0, values_below ns p.1)
+values_below (n ∷ ns) e = let p = and_parts _ _ e in (ltb-true _ _ p.0, values_below ns p.1)
 
 -- numbers that were written are read
 pub numbers_written : (ns : List ℕ) → Values ns → 1 ≤ length ns → length ns ≤ 16 → numbers (written ns) ≡ Some ns
@@ -118,8 +115,8 @@ numbers_read bs ns = by (bytes_eq (written (guess bs)) bs && (below (guess bs) &
     by : (t : Bool) → (bytes_eq (written (guess bs)) bs && (below (guess bs) && ltb (length (guess bs)) 17)) ≡ t → numbers_by (guess bs) t ≡ Some ns → Read bs ns
     by false e h = let z : ◌≡◌ {A = ℕ} 0 1 = cc in absurd (omega arith)
     by true e h =
-        let p = and_both _ _ e in
-        let q = and_both _ _ p.1 in
+        let p = and_parts _ _ e in
+        let q = and_parts _ _ p.1 in
         let g : guess bs ≡ ns = cc in
         record {
           values = subst Values g (values_below (guess bs) q.0);

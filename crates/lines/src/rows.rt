@@ -6,7 +6,7 @@ ghost use Rattle.orders.specs.Entries.{Writes, Refused};
 use super::numbers::Fields;
 use orders::{Order, Refusal};
 
-// A number as a place; a number above 16 is none, and stands as 0.
+// A number as a place; a number above 16 is none, and stands as 0: 0 is no place either, so `from_row` refuses both alike.
 fn place_of(value: u64) -> u8
     ensures { result ≡ place_of value }
 {

@@ -1,4 +1,4 @@
-// The line of a node in a sheet.
+// The line of a node in a sheet. Here, and not with the sheets, since the store takes such lines too.
 ghost use Rattle.std.specs.Prelude.{◌≡◌, [], ◌∷◌};
 ghost use Rattle.std.proofs.Common.{rules};
 
@@ -44,6 +44,7 @@ impl TryFrom<NodeLine> for Branch {
     ghost try_from_gives = { Branches };
 
     fn try_from(line: NodeLine) -> Result<Branch, Refusal> {
+        // One refusal for all four, so there is no `?` on each.
         match (
             u8::try_from(line.x),
             u8::try_from(line.y),

@@ -45,7 +45,7 @@ pub enum Refusal {
 }
 
 impl Refusal {
-    // The refusal's number.
+    // The refusal's number. A method and no `From`: a call then says what the number is.
     pub fn number(self) -> u8
         ensures { result ≡ number self }
     {

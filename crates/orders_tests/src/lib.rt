@@ -5,25 +5,21 @@
 mod examples {
     use lines::{fields, first_line, order_of, put_bytes, put_line};
     use lists::Filled;
-    use orders::{Chain, Order, Refusal, factors, product};
+    use orders::{Chain, Order, Refusal, Rotation, Swap, factors, product};
     use std::test::Fail;
 
     // The order of a row of up to four entries.
     fn order(row: [u8; 4], len: u8) -> Result<Order, Fail> {
         let [a, b, c, d] = row;
-        match Order::from_row([a, b, c, d, 0, 0, 0, 0, 0, 0, 0, 0, 0, 0, 0, 0], len) {
-            Ok(order) => Ok(order),
-            Err(_) => Err(Fail::new("refused")),
-        }
+        Ok(Order::from_row([a, b, c, d, 0, 0, 0, 0, 0, 0, 0, 0, 0, 0, 0, 0], len)?)
     }
 
     // Whether a row of four is refused as no order.
     fn is_refused(row: [u8; 4], len: u8) -> bool {
         let [a, b, c, d] = row;
-        match Order::from_row([a, b, c, d, 0, 0, 0, 0, 0, 0, 0, 0, 0, 0, 0, 0], len) {
-            Ok(_) => false,
-            Err(refusal) => refusal == Refusal::BadRow && refusal.number() == 3,
-        }
+        Order::from_row([a, b, c, d, 0, 0, 0, 0, 0, 0, 0, 0, 0, 0, 0, 0], len).is_err_and(
+            |refusal| refusal == Refusal::BadRow && refusal.number() == 3,
+        )
     }
 
     #[test]
@@ -55,7 +51,7 @@ mod examples {
         assert!(rt; is_refused([1, 2, 3, 4], 255));
         assert!(rt; is_refused([0, 1, 2, 3], 4));
         assert!(rt; is_refused([1, 2, 3, 5], 4));
-        assert!(rt; is_refused([1, 2, 3, 4], 3) == false);
+        assert!(rt; !is_refused([1, 2, 3, 4], 3));
         assert!(rt; is_refused([2, 2, 1, 0], 3));
     }
 
@@ -81,24 +77,24 @@ mod examples {
 
     #[test]
     fn the_moves_of_both_chains(rt: HostRuntime) -> Result<(), Fail> {
-        assert!(rt; orders::Swap::CODE == 1 && orders::Rotation::CODE == 2);
-        assert!(rt; <orders::Swap as Chain>::step(4, 2) == order([1, 4, 3, 2], 4)?);
-        assert!(rt; <orders::Rotation as Chain>::step(4, 2) == order([1, 3, 4, 2], 4)?);
-        assert!(rt; <orders::Swap as Chain>::step(2, 2) == Order::standing());
-        assert!(rt; <orders::Rotation as Chain>::step(17, 1) == Order::standing());
-        assert!(rt; <orders::Rotation as Chain>::step(1, 0) == Order::standing());
+        assert!(rt; Swap::CODE == 1 && Rotation::CODE == 2);
+        assert!(rt; Swap::step(4, 2) == order([1, 4, 3, 2], 4)?);
+        assert!(rt; Rotation::step(4, 2) == order([1, 3, 4, 2], 4)?);
+        assert!(rt; Swap::step(2, 2) == Order::standing());
+        assert!(rt; Rotation::step(17, 1) == Order::standing());
+        assert!(rt; Rotation::step(1, 0) == Order::standing());
         Ok(())
     }
 
     #[test]
     fn an_order_is_the_product_of_its_factors(rt: HostRuntime) -> Result<(), Fail> {
         let a = order([3, 1, 4, 2], 4)?;
-        let swaps = factors::<orders::Swap>(a);
+        let swaps = factors::<Swap>(a);
         assert!(rt; swaps[1] == 1 && swaps[2] == 2 && swaps[3] == 2);
-        assert!(rt; product::<orders::Swap>(swaps) == a);
-        let rotations = factors::<orders::Rotation>(a);
+        assert!(rt; product::<Swap>(swaps) == a);
+        let rotations = factors::<Rotation>(a);
         assert!(rt; rotations[1] == 1 && rotations[2] == 3 && rotations[3] == 2);
-        assert!(rt; product::<orders::Rotation>(rotations) == a);
+        assert!(rt; product::<Rotation>(rotations) == a);
         Ok(())
     }
 

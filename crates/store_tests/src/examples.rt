@@ -22,6 +22,7 @@ fn line(x: u64, y: u64, lo: u64, hi: u64) -> NodeLine {
 }
 
 // Whether a call is declined by the refusal with this number.
+// By number: the numbers are fixed, and files tell refusals by them.
 fn is_declined<T: Drop>(res: Result<T, Refusal>, number: u8) -> bool {
     res.is_err_and(|refusal| refusal.number() == number)
 }
@@ -212,7 +213,7 @@ fn swept_on_peg<G: Chain, C: Cache>(
     Ok((held?, nodes))
 }
 
-// Whether a set cannot be put on a peg, by the refusal with this number.
+// Whether a set cannot be put on a peg, by the refusal with this number; by number here too.
 fn not_held<G: Chain, C: Cache>(
     store: &mut Store<G, C>,
     set: Handle,

@@ -52,6 +52,7 @@ impl Order {
 
     // The order that a row of `len` entries writes out: piece k goes to the entry k, counted from 1.
     // What lies beyond the length is not read, and those pieces stand still.
+    // A row is sixteen bytes by value, with how many of them are meant.
     pub fn from_row(row: [u8; 16], len: u8) -> Result<Order, Refusal>
         ensures { MatchResult result (Writes row len) (Refused row len) }
     {
