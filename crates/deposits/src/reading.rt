@@ -34,7 +34,7 @@ fn enter<G: Chain, C: Cache>(
                 ..*line
             })
             .map_err(|refusal| Fault::new(refusal, number, Part::Store))?;
-        let _ = numbers.add(handle.number);
+        numbers.add(handle.number).unwrap();
     }
     Ok(())
 }

@@ -1,5 +1,5 @@
 -- Node lines, one after the other. Assumes nothing.
-use Rattle.std.proofs.Common.{◌≡◌, ℕ, suc, ◌+◌, ◌-◌, ◌<◌, ◌≤◌, Bool, true, false, not, ◌&&◌, eqb, ltb, List, [], ◌∷◌, ◌++◌, length, IsErrAnd, Some, None, Ok, Err, Option, Result, MatchOption, sym, refl, ap, ◌∙◌, subst, true≢false, arith, length-append, length-set, Bor, ltb-false, ltb-true, le-ltb, lt-ltb, ne_eqb}
+use Rattle.std.proofs.Common.{◌≡◌, ℕ, suc, ◌+◌, ◌-◌, ◌<◌, ◌≤◌, Bool, true, false, not, ◌&&◌, eqb, ltb, List, [], ◌∷◌, ◌++◌, length, IsErrAnd, Some, None, Ok, Err, Option, Result, is_ok, MatchOption, sym, refl, ap, ◌∙◌, subst, true≢false, arith, length-append, length-set, Bor, ltb-false, ltb-true, le-ltb, lt-ltb, ne_eqb}
 use Rattle.std.specs.Bool.{then_some}
 use Rattle.std.specs.Result.{result_ok}
 use Rattle.orders.specs.declared.refusal.Refusal.{Refusal}
@@ -112,9 +112,9 @@ kept_in pieces N ls a e room k =
     let long : length N ≡ length ls = ap length e ∙ tabled_length ls in
     (omega arith, kept pieces N a (omega arith) k)
 
--- a node that is made stands last
+-- there is room for a node that is made, and it stands last
 pub made : (N M : List Node) (a : NodeLine) (r : Result ℕ Refusal) → Kept N a → length N < 2046 →
-    Makes (node 2046 N a.x a.y a.lo a.hi 0) M 0 r → M ≡ grown N a
+    Makes (node 2046 N a.x a.y a.lo a.hi 0) M 0 r → (is_ok r ≡ true) × (M ≡ grown N a)
 unfolding node
 made N M a r k room m = by r (subst (λ o. Makes o M 0 r) is m)
   where
@@ -126,8 +126,8 @@ made N M a r k room m = by r (subst (λ o. Makes o M 0 r) is m)
         ∙ ap (λ t. node_by N a.x a.y a.lo a.hi 0 false t (ltb (length N) 2046)) (le-ltb _ _ k.new)
         ∙ ap (λ t. node_by N a.x a.y a.lo a.hi 0 false false t) (lt-ltb _ _ room)
 
-    by : (r : Result ℕ Refusal) → Makes (done (grown N a) (suc (suc (length N))) 0) M 0 r → M ≡ grown N a
-    by (Ok n) h = h.0
+    by : (r : Result ℕ Refusal) → Makes (done (grown N a) (suc (suc (length N))) 0) M 0 r → (is_ok r ≡ true) × (M ≡ grown N a)
+    by (Ok n) h = (refl, h.0)
     by (Err e) h = absurd h
 
 -- one line, question by question

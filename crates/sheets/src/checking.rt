@@ -15,7 +15,7 @@ use super::top::read_top;
 use super::visit::numbered;
 use lists::{Filled, NodeLine};
 use orders::Refusal;
-use tables::Table;
+use tables::{ROOM, Table};
 
 // A sheet that was accepted: the number of its root among its lines, and how many orders its set has.
 #[derive(Clone, Copy)]
@@ -33,7 +33,7 @@ fn first_off(marks: &[u32]) -> Option<usize>
 {
     marks
         .iter()
-        .zip(2..2048)
+        .zip(2..ROOM as u32 + 2)
         .position(|(mark, own)| *mark != own)
 }
 
@@ -68,7 +68,7 @@ fn finish(rest: &[u8], table: &Table, orders: u64) -> Result<Checked, Fault>
     Ok(Checked { root, orders })
 }
 
-// Checks a whole sheet for a store of so many pieces over a chain. The list is emptied, and then has the lines that kept the rules.
+// Checks a whole sheet for a store of so many pieces over a chain, by its code, as line 2 has it. The list is emptied, and then has the lines that kept the rules.
 pub fn check(
     text: &[u8],
     pieces: u8,

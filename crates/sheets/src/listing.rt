@@ -9,7 +9,8 @@ use super::nodes::Nodes;
 use super::visit::numbered;
 use lists::{Filled, NodeLine};
 
-// What a list of numbers gives to the number `k`: 0 and 1 keep theirs, and what is beyond the list gets 0.
+// What a list of numbers gives to the number `k`: 0 and 1 keep theirs, and what is beyond the list gets 0. The definition gives the empty set
+// there; a checked sheet never asks it.
 pub fn number_of(numbers: &[u32], k: u64) -> u32
     ensures { result ≡ taken numbers.now k }
 {
@@ -47,6 +48,6 @@ pub fn list_lines(nodes: Nodes, root: u32, lines: &mut Filled<NodeLine>)
     let visit = numbered(nodes, root);
     let marks = &visit.marks;
     for n in &visit.order[..visit.count] {
-        let _ = lines.add(line_of(nodes, marks, *n));
+        lines.add(line_of(nodes, marks, *n)).unwrap();
     }
 }
