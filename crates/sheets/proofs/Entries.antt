@@ -218,7 +218,7 @@ going_none start count text few = record {
   within = omega arith;
   few = omega arith;
   left = ap (λ n. rows n start.pieces (items_of start.lines.now) text) (let e : count ≡ count - 0 = omega arith in e);
-  stays = record { pieces = refl; lender = refl; memory = refl; list = refl };
+  stays = record { pieces = refl; lender = refl; list = record { lender = refl; long = refl } };
 }
 
 -- one step
@@ -235,8 +235,7 @@ module _ (start : Reader) (count : ℕ) (text : List ℕ) (now : Reader) (rest :
   stays_on = record {
     pieces = stays.pieces ∙ g.stays.pieces;
     lender = stays.lender ∙ g.stays.lender;
-    memory = stays.memory ∙ g.stays.memory;
-    list = stays.list ∙ g.stays.list;
+    list = record { lender = stays.list.lender ∙ g.stays.list.lender; long = stays.list.long ∙ g.stays.list.long };
   }
 
   pub going_more : (after : List ℕ) → items_of next.lines.now ≡ (rows 1 now.pieces (items_of now.lines.now) rest).0 →

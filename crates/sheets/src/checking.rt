@@ -5,6 +5,7 @@ ghost use Rattle.lists.specs.declared.node_line.NodeLine.{NodeLine};
 ghost use Rattle.tables.specs.Rows.{rows as rows_of};
 ghost use Rattle.sheets.specs.declared.fault.Fault.{Fault};
 ghost use Rattle.sheets.specs.Own.{Own};
+ghost use Rattle.sheets.specs.Reading.{Lent};
 ghost use Rattle.sheets.specs.Checks.{root_of, counts, finish, checked, Outcome};
 
 use super::fault::{Fault, Part};
@@ -77,8 +78,7 @@ pub fn check(
 ) -> Result<Checked, Fault>
     requires room { 2046 ≤ length (room_of lines.old) }
     ensures is { ◌≡◌ {A = List NodeLine × Result Checked Fault} (items_of lines.new, result) (checked pieces chain text.now) }
-    ensures list { length (room_of lines.new) ≡ length (room_of lines.old) }
-    ensures lender { lines.new.room.ghost_name ≡ lines.old.room.ghost_name }
+    ensures lent { Lent lines.old lines.new }
 {
     lines.clear();
     let mut reader = Reader {

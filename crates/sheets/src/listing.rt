@@ -4,6 +4,7 @@ ghost use Rattle.lists.specs.Items.{items_of, room_of};
 ghost use Rattle.diagrams.specs.Table.{Exists};
 ghost use Rattle.forms.specs.Marks.{taken, line_by};
 ghost use Rattle.forms.specs.Walks.{sheet_of};
+ghost use Rattle.sheets.specs.Reading.{Lent};
 
 use super::nodes::Nodes;
 use super::visit::numbered;
@@ -41,8 +42,7 @@ pub fn list_lines(nodes: Nodes, root: u32, lines: &mut Filled<NodeLine>)
     requires within { Exists nodes.rows.now root }
     requires room { 2046 ≤ length (room_of lines.old) }
     ensures items { items_of lines.new ≡ (sheet_of nodes.entry.rows.now root).lines }
-    ensures list { length (room_of lines.new) ≡ length (room_of lines.old) }
-    ensures lender { lines.new.room.ghost_name ≡ lines.old.room.ghost_name }
+    ensures lent { Lent lines.old lines.new }
 {
     lines.clear();
     let visit = numbered(nodes, root);
