@@ -20,7 +20,8 @@ use Rattle.sheets.specs.Gives.{Gives}
 use Rattle.diagrams.specs.declared.Branch.{Branch}
 use Rattle.sheets.specs.declared.reader.Reader.{Reader}
 use Rattle.sheets.specs.Reading.{branch_line, Stays}
-use Rattle.sheets.proofs.Keeps.{and_both, askable}
+use Rattle.std.proofs.lemmas.Bool.{and_parts}
+use Rattle.sheets.proofs.Keeps.{askable}
 
 tabled_on_push : (N : List Node) (ls : List NodeLine) (a : NodeLine) → tabled_on N (ls ++ (a ∷ [])) ≡ grown (tabled_on N ls) a
 tabled_on_push N [] a = refl
@@ -52,14 +53,14 @@ not_true false e = refl
 pub kept : (pieces : ℕ) (N : List Node) (a : NodeLine) → length N ≤ 2046 → keeps pieces N a ≡ true → Kept N a
 unfolding keeps
 kept pieces N a few e =
-    let p = and_both (paired pieces a) (earlier (length N + 2) a && placed N a) e in
-    let q = and_both (earlier (length N + 2) a) (placed N a) p.1 in
+    let p = and_parts (paired pieces a) (earlier (length N + 2) a && placed N a) e in
+    let q = and_parts (earlier (length N + 2) a) (placed N a) p.1 in
     let k = askable pieces N a few p.0 q.0 in
-    let t = and_both (ltb a.lo (length N + 2)) (ltb 0 a.hi && ltb a.hi (length N + 2)) q.0 in
-    let u = and_both (ltb 0 a.hi) (ltb a.hi (length N + 2)) t.1 in
+    let t = and_parts (ltb a.lo (length N + 2)) (ltb 0 a.hi && ltb a.hi (length N + 2)) q.0 in
+    let u = and_parts (ltb 0 a.hi) (ltb a.hi (length N + 2)) t.1 in
     let there = ltb (find N a.x a.y a.lo a.hi) (length N) in
-    let r = and_both (ltb (level_of N a.lo) (level a.x a.y)) (ltb (x_of N a.hi) a.x && not there) q.1 in
-    let s = and_both (ltb (x_of N a.hi) a.x) (not there) r.1 in
+    let r = and_parts (ltb (level_of N a.lo) (level a.x a.y)) (ltb (x_of N a.hi) a.x && not there) q.1 in
+    let s = and_parts (ltb (x_of N a.hi) a.x) (not there) r.1 in
     record {
       asks = record {
         x_max = k.x_max;

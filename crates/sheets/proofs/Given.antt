@@ -48,13 +48,6 @@ module _ {A E D : Type 0} (o : Result A E) (r : Result A D) (Post : E → D → 
       by (Ok b) q = cc
       by (Err x) q = (x, refl, subst (λ s. IsErrAnd s (Post x)) e q)
 
--- what is known of a result, by what it is
-pub known_ok : {A E : Type 0} (r : Result A E) (Yes : A → Type 0) (No : E → Type 0) → MatchResult r Yes No → (a : A) → r ≡ Ok a → Yes a
-known_ok r Yes No m a e = subst (λ s. MatchResult s Yes No) e m
-
-pub known_err : {A E : Type 0} (r : Result A E) (Yes : A → Type 0) (No : E → Type 0) → MatchResult r Yes No → (x : E) → r ≡ Err x → No x
-known_err r Yes No m x e = subst (λ s. MatchResult s Yes No) e m
-
 -- a value that has to pass a test
 module _ {A : Type 0} (o p : Option A) (Post : A → Bool → Type 0) (m : MatchOption o (p ≡ None) (λ x. (b : Bool) × Post x b × (p ≡ then_some b x)))
     (t : A → Bool) (tests : (x : A) (b : Bool) → Post x b → b ≡ t x) where
@@ -84,6 +77,3 @@ module _ {A : Type 0} (o p : Option A) (Post : A → Bool → Type 0) (m : Match
       by : (r : Option A) → MatchOption r (p ≡ None) (λ x. (b : Bool) × Post x b × (p ≡ then_some b x)) → (r ≡ None) ⊎ ((x : A) × (r ≡ Some x) × (t x ≡ false))
       by (Some y) q = inr (y, refl, then_by y (t y) refl (by_test y q))
       by None q = inl refl
-
-pub known_some : {A : Type 0} (o : Option A) (No : Type 0) (Yes : A → Type 0) → MatchOption o No Yes → (a : A) → o ≡ Some a → Yes a
-known_some o No Yes m a e = subst (λ p. MatchOption p No Yes) e m
