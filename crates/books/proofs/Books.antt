@@ -14,7 +14,7 @@ use Rattle.sheets.specs.Faults.{bad_line}
 use Rattle.sheets.specs.Lines.{ask, after, names, values}
 use Rattle.sheets.proofs.Fronts.{names_ok}
 use Rattle.sheets.proofs.Tops.{asked_yes}
-use Rattle.sheets.proofs.Keeps.{and_both}
+use Rattle.std.proofs.lemmas.Bool.{and_parts}
 use Rattle.books.specs.declared.top.Book.{Book}
 use Rattle.books.specs.Faults.{bad_pieces, other_chain}
 use Rattle.books.specs.Format.{head, order_name, order_line, book_bytes}
@@ -160,8 +160,8 @@ book_read pieces chain b = by (ltb 1 pieces && ltb pieces 17) refl
     chain_by false p c h = let z : ◌≡◌ {A = ℕ} 0 1 = cc in absurd (omega arith)
     chain_by true p c h =
         let is = the_book record { pieces = pieces; chain = chain } b h in
-        let q = and_both (ltb 1 pieces) (ltb pieces 17) p in
-        let d = and_both (ltb 0 chain) (ltb chain 3) c in
+        let q = and_parts (ltb 1 pieces) (ltb pieces 17) p in
+        let d = and_parts (ltb 0 chain) (ltb chain 3) c in
         let one : pieces ≡ b.pieces = ap (λ (a : Book). a.pieces) is in
         let two : chain ≡ b.chain = ap (λ (a : Book). a.chain) is in (
           one,

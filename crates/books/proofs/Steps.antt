@@ -52,17 +52,16 @@ gives_fault b room cs text f (Err y) e h = (h ∙ ap Err (sym e), refl)
 
 -- what becomes of the lent memory
 pub kept_same : (l m : Filled ℕ) → m ≡ l → Kept l m
-kept_same l m e = subst (Kept l) (sym e) record { lender = refl; long = refl; beyond = refl }
+kept_same l m e = subst (Kept l) (sym e) record { lent = record { lender = refl; long = refl }; beyond = refl }
 
 pub kept_cleared : (l m : Filled ℕ) → room_of m ≡ room_of l → m.room.ghost_name ≡ l.room.ghost_name → Kept l m
-kept_cleared l m e lender = record { lender = lender; long = ap length e; beyond = ap (drop (length (items_of m))) e }
+kept_cleared l m e lender = record { lent = record { lender = lender; long = ap length e }; beyond = ap (drop (length (items_of m))) e }
 
 pub kept_grown : (l m : Filled ℕ) (c place : ℕ) → Grown l m c place → m.room.ghost_name ≡ l.room.ghost_name → Kept l m
 kept_grown l m c place g lender =
     let n : length (items_of m) ≡ length (items_of l) + 1 = ap length g.items ∙ length-append (items_of l) (c ∷ []) in
     record {
-      lender = lender;
-      long = ap length g.room ∙ length-set (room_of l) place c;
+      lent = record { lender = lender; long = ap length g.room ∙ length-set (room_of l) place c };
       beyond = ap (drop (length (items_of m))) g.room ∙ drop-set-lt (length (items_of m)) (room_of l) place c (omega (arith, g.last));
     }
 
@@ -132,8 +131,7 @@ rows_end (suc k) b room cs (t ∷ ts) e = absurd (omega arith)
 
 pub kept_then : (l m n : Filled ℕ) → length (items_of m) ≤ length (items_of n) → Kept l m → Kept m n → Kept l n
 kept_then l m n more a b = record {
-  lender = b.lender ∙ a.lender;
-  long = b.long ∙ a.long;
+  lent = record { lender = b.lent.lender ∙ a.lent.lender; long = b.lent.long ∙ a.lent.long };
   beyond = b.beyond ∙ drop_further (length (items_of m)) (length (items_of n)) (room_of m) (room_of l) more a.beyond;
 }
   where
@@ -148,7 +146,7 @@ module _ (b : Book) (before : Filled ℕ) (whole : List ℕ) (now : Filled ℕ) 
   total = rows (length whole) b (length (room_of before)) (items_of before) whole
 
   the_room : length (room_of now) ≡ length (room_of before)
-  the_room = g.kept.long
+  the_room = g.kept.lent.long
 
   pub going_on : (rest : Bor (List ℕ)) → Gives b (length (room_of now)) (items_of now) left (items_of next) (Ok rest) → Going b before whole next rest.now
   going_on rest (c, e, items) = by g.depth g.enough g.same

@@ -4,6 +4,7 @@ use Rattle.std.specs.Borrow.{Bor}
 use Rattle.lists.specs.declared.filled.Filled.{Filled}
 use Rattle.lists.specs.Items.{items_of, room_of}
 use Rattle.sheets.specs.declared.fault.Fault.{Fault}
+use Rattle.sheets.specs.Reading.{Lent}
 use Rattle.books.specs.declared.top.Book.{Book}
 use Rattle.books.specs.Reading.{row}
 
@@ -14,6 +15,5 @@ Gives b room cs text now (Err f) = (row b room cs text ≡ Err f) × (now ≡ cs
 
 -- the lent memory is the same, and beyond the list's records it is as it was
 pub record Kept (before after : Filled ℕ) : Type 0 where
-  pub lender : after.room.ghost_name ≡ before.room.ghost_name
-  pub long : length (room_of after) ≡ length (room_of before)
+  pub lent : Lent before after
   pub beyond : drop (length (items_of after)) (room_of after) ≡ drop (length (items_of after)) (room_of before)

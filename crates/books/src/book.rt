@@ -25,7 +25,7 @@ fn read_order<'a>(text: &'a [u8], book: Book, list: &mut Filled<u64>) -> Result<
     Ok(rest)
 }
 
-// All orders of the text, one after the other.
+// All orders of the text, one after the other. Each step says itself how much it took, so there is no list of lines to go over.
 fn read_orders(text: &[u8], book: Book, list: &mut Filled<u64>) -> Result<Book, Fault>
     ensures outcome { ◌≡◌ {A = Outcome} (items_of list.new, result) (rows (length text.now) book (length (room_of list.old)) (items_of list.old) text.now) }
     ensures kept { Kept list.old list.new }

@@ -6,7 +6,6 @@ use Rattle.orders.specs.declared.refusal.Refusal.{Refusal}
 use Rattle.orders.specs.declared.refusal.Refusal.TheVariants.{NoSuchHold}
 use Rattle.orders.specs.declared.chain.Chain as chain
 use Rattle.caches.specs.declared.Cache as cache
-use Rattle.lines.specs.Pages.{Stands, Short}
 use Rattle.lists.specs.declared.node_line.NodeLine.{NodeLine}
 use Rattle.diagrams.specs.declared.Node.{Node}
 use Rattle.diagrams.specs.Moves.{Moves}
@@ -22,7 +21,7 @@ use Rattle.store.specs.declared.shapes.Handle.{Handle}
 use Rattle.store.specs.declared.shapes.SetCall.{SetCall}
 use Rattle.store.specs.declared.store.Store.{Store}
 use Rattle.store.specs.Views.{View, view, room_of, with_nodes, with_pegs}
-use Rattle.store.specs.Questions.{or_else, handle_asked, order_asked, spot_asked, call_asked, task_of}
+use Rattle.store.specs.Questions.{answered, or_else, handle_asked, order_asked, spot_asked, call_asked, task_of}
 use Rattle.store.specs.Steps as store
 use Rattle.store.specs.Steps.{sets, adds, holds, releases, held, released, released_by, sweep, declined, worked, unless, node_asked, season_asked, entries_if, entries_in, swept_view, left}
 use Rattle.store.specs.Does as StoreDoes
@@ -156,29 +155,43 @@ take_front : (a b : List ℕ) → take (length a) (a ++ b) ≡ a
 take_front [] b = refl
 take_front (x ∷ a) b = ap (λ (l : List ℕ). x ∷ l) (take_front a b)
 
-module _ (code : ℕ) (w : View) (h : Handle) (before after : List ℕ) (q : handle_asked w h ≡ None) where
+module _ (code : ℕ) (w : View) (h : Handle) (before after : List ℕ) where
   text : List ℕ
   text = sheet_text code w.nodes h.number
 
   -- once the handle is accepted, the page decides
-  sheet_by : (b : Bool) → leb (length text) (length before) ≡ b → fits_on b text ≡ sheet_on (handle_asked w h) text (length before)
-  sheet_by b e = ap (λ c. fits_on c text) (sym e) ∙ sym (ap (λ o. sheet_on o text (length before)) q)
+  sheet_by : (b : Bool) → leb (length text) (length before) ≡ b → fits_on b text ≡ sheet_on None text (length before)
+  sheet_by b e = ap (λ c. fits_on c text) (sym e)
 
-  pub sheet_fits : (end : ℕ) → Writes code w h before after (Ok end) → (end ≤ length after) × (Ok (take end after) ≡ sheet_on (handle_asked w h) (sheet_text code w.nodes h.number) (length before))
-  unfolding Writes text
-  sheet_fits end p =
-      let s : Stands before after 0 text end = subst (λ o. WritesIf o text before after (Ok end)) q p in
+  fits_by : (o : Option Refusal) (end : ℕ) → WritesIf o text before after (Ok end) → (end ≤ length after) × (Ok (take end after) ≡ sheet_on o text (length before))
+  fits_by (Some e) end p = cc
+  fits_by None end s =
       let rest = drop (0 + length text) before in
       let page : after ≡ text ++ rest = s.page in
       let at : end ≡ length text = omega (arith, s.ends) in
       let bytes : take end after ≡ text = ap (λ n. take n after) at ∙ ap (take (length text)) page ∙ take_front text rest in
       (omega (arith, at, ap length page, length-append text rest), ap Ok bytes ∙ sheet_by true (le-leb (length text) (length before) (omega (arith, s.room))))
 
+  short_by : (o : Option Refusal) (e : Refusal) → WritesIf o text before after (Err e) → Err e ≡ sheet_on o text (length before)
+  short_by (Some x) e p = let why = p.0 in let same : e ≡ x = cc in ap Err same
+  short_by None e s = ap Err s.number ∙ sheet_by false (lt-leb (length text) (length before) (omega (arith, s.room)))
+
+  -- a handle that is not accepted
+  pub sheet_declined : {A : Type 0} (v : A) (e : Refusal) (r : Result ℕ Refusal) → Err e ≡ answered (handle_asked w h) v → r ≡ Err e → Writes code w h before before r
+  unfolding Writes
+  sheet_declined v e r was is = by (handle_asked w h) was
+    where
+      by : (o : Option Refusal) → Err e ≡ answered o v → WritesIf o (sheet_text code w.nodes h.number) before before r
+      by None q = cc
+      by (Some x) q = let same : e ≡ x = cc in (is ∙ ap Err same, refl)
+
+  pub sheet_fits : (end : ℕ) → Writes code w h before after (Ok end) → (end ≤ length after) × (Ok (take end after) ≡ sheet_on (handle_asked w h) (sheet_text code w.nodes h.number) (length before))
+  unfolding Writes text
+  sheet_fits end p = fits_by (handle_asked w h) end p
+
   pub sheet_short : (e : Refusal) → Writes code w h before after (Err e) → Err e ≡ sheet_on (handle_asked w h) (sheet_text code w.nodes h.number) (length before)
   unfolding Writes text
-  sheet_short e p =
-      let s : Short before after 0 text e = subst (λ o. WritesIf o text before after (Err e)) q p in
-      ap Err s.number ∙ sheet_by false (lt-leb (length text) (length before) (omega (arith, s.room)))
+  sheet_short e p = short_by (handle_asked w h) e p
 
 -- a hold that is in hand is given back
 module _ {G C : Type 0} {cg : chain.Ghosts G} {cc : cache.Ghosts C} (s t : Store G C cg cc) (R R' : Slots) (c : Claim) (k : Racked (view s) R) where

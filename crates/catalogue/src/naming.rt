@@ -18,9 +18,7 @@ impl Name {
         if self.season != u64::from(season) {
             return Err(Refusal::OtherSeason);
         }
-        let Ok(number) = u32::try_from(self.number) else {
-            return Err(Refusal::NoSuchNumber);
-        };
+        let number = u32::try_from(self.number).map_err(|_| Refusal::NoSuchNumber)?;
         let handle = Handle { season, number };
         store.number_of(handle)?;
         Ok(handle)
@@ -40,7 +38,7 @@ fn both_known<G: Chain, C: Cache>(
     Ok((a, b))
 }
 
-// A piece and a place as bytes; those of a film are at most 16.
+// A piece and a place as bytes. 16 is the most that a film has; `try_from` would let 17 to 255 through.
 fn spot(piece: u64, place: u64) -> Result<(u8, u8), Refusal>
     ensures { result ≡ answered (spot_fits piece place) (piece, place) }
 {
@@ -64,7 +62,8 @@ fn known_with_spot<G: Chain, C: Cache>(
     Ok((handle, spot))
 }
 
-// The call that works out what is asked for, once what it names was asked about.
+// The call that works out what is asked for, once what it names was asked about. Each call asks its own questions in its own order, so there is no
+// map over its parts.
 pub(crate) fn set_call<G: Chain, C: Cache>(
     store: &Store<G, C>,
     asked: Asked,

@@ -1,13 +1,10 @@
-// A rack of holds, each in the slot with the number of its peg.
+// A rack of holds, each in the slot with the number of its peg: a slot for each peg.
 ghost use Rattle.std.specs.Prelude.{◌≡◌, length};
 
 use store::Hold;
 
 mod ending;
 mod slots;
-
-// How many slots there are: one for each peg.
-pub const SLOTS: usize = 64;
 
 // The holds that a list of requests has in hand.
 pub struct Rack {

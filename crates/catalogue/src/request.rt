@@ -4,14 +4,14 @@ use orders::{Order, Refusal};
 use sheets::Fault;
 use store::{Found, Handle, SetCall};
 
-// A set by its handle, as somebody names it: any two numbers.
+// A set by its handle, as somebody names it: any two numbers, and so no `Handle`: only `known` makes one of them.
 #[derive(Clone, Copy)]
 pub struct Name {
     pub season: u64,
     pub number: u64,
 }
 
-// A hold by its mark and its peg, as somebody names it: any two numbers.
+// A hold by its mark and its peg, as somebody names it: any two numbers, and so no `Hold`: only the rack has those.
 #[derive(Clone, Copy)]
 pub struct Claim {
     pub mark: u64,

@@ -14,6 +14,7 @@ use Rattle.forms.specs.Visits.{blank}
 use Rattle.sheets.specs.declared.fault.Fault.{Fault}
 use Rattle.sheets.specs.declared.checking.Checked.{Checked}
 use Rattle.sheets.specs.Checks.{checked}
+use Rattle.sheets.specs.Reading.{Lent}
 use Rattle.sheets.proofs.Entries.{added}
 use Rattle.store.specs.declared.shapes.Handle.{Handle}
 use Rattle.store.specs.Views.{View, with_nodes}
@@ -75,11 +76,10 @@ pub record Entering (w : View) (start : Filled ℕ) (ls : List NodeLine) (v : Vi
   pub within : k ≤ length ls
   pub left : enters w (items_of start) ls ≡ enters v (items_of now) (drop k ls)
   pub free : length (items_of now) + (length ls - k) ≤ length (room_of now)
-  pub long : length (room_of now) ≡ length (room_of start)
-  pub lender : now.room.ghost_name ≡ start.room.ghost_name
+  pub lent : Lent start now
 
 pub entering_none : (w : View) (start : Filled ℕ) (ls : List NodeLine) → length (items_of start) + length ls ≤ length (room_of start) → Entering w start ls w start 0
-entering_none w start ls room = record { within = omega arith; left = refl; free = omega arith; long = refl; lender = refl }
+entering_none w start ls room = record { within = omega arith; left = refl; free = omega arith; lent = record { lender = refl; long = refl } }
 
 -- one turn, by what the store answers
 module _ (g : Moves) (w : View) (start : Filled ℕ) (ls : List NodeLine) (u v : View) (now : Filled ℕ) (k : ℕ) (e : Entering w start ls u now k) (more : k < length ls)
@@ -96,8 +96,7 @@ module _ (g : Moves) (w : View) (start : Filled ℕ) (ls : List NodeLine) (u v :
         within = omega arith;
         left = next ∙ enters_found g u v (items_of now) (get_or ls k blank) (drop (k + 1) ls) lo hi low high h is ∙ ap (λ (l : List ℕ). enters v l (drop (k + 1) ls)) (sym s.0);
         free = omega (arith, e.free, more, ap length s.0, n, s.1);
-        long = s.1 ∙ e.long;
-        lender = lender ∙ e.lender;
+        lent = record { lender = lender ∙ e.lent.lender; long = s.1 ∙ e.lent.long };
       }
 
   pub entering_declined : (x : Refusal) → (v, declined x) ≡ step g u (adds (get_or ls k blank).x (get_or ls k blank).y lo hi) →

@@ -1,6 +1,7 @@
 // A sheet, read into a store.
 ghost use Rattle.std.specs.Prelude.{◌≡◌, ◌+◌, ◌≤◌, length, IfOk};
 ghost use Rattle.lists.specs.Items.{items_of, room_of};
+ghost use Rattle.sheets.specs.Reading.{Lent};
 ghost use Rattle.store.specs.Views.{view};
 ghost use Rattle.deposits.specs.Reading.{enters, Gave, reads};
 ghost use Rattle.deposits.specs.Writing.{sheet_text};
@@ -21,7 +22,7 @@ fn enter<G: Chain, C: Cache>(
     requires room { length (items_of numbers.old) + length lines.now ≤ length (room_of numbers.old) }
     requires few { length (room_of numbers.old) ≤ 2046 }
     ensures is { Gave (enters (view store.old) (items_of numbers.old) lines.now) (view store.new) (items_of numbers.new) result }
-    ensures lender { numbers.new.room.ghost_name ≡ numbers.old.room.ghost_name }
+    ensures lent { Lent numbers.old numbers.new }
 {
     for line in lines {
         let number = numbers.len() as u64 + FIRST_LINE;
@@ -34,7 +35,7 @@ fn enter<G: Chain, C: Cache>(
                 ..*line
             })
             .map_err(|refusal| Fault::new(refusal, number, Part::Store))?;
-        let _ = numbers.add(handle.number);
+        numbers.add(handle.number).unwrap();
     }
     Ok(())
 }

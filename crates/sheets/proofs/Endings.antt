@@ -129,7 +129,7 @@ module _ (N : List Node) (orders : ℕ) (rest : List ℕ) where
       finish_ok e = then_count ∙ asked_yes _ _ _ e
 
 -- a fault that is passed on
-pub fault_is : {A : Type 0} (f : Fault) (r : Result A Fault) → IsErrAnd r (λ y. y ≡ f) → r ≡ Err f
+pub fault_is : {A E : Type 0} (f : E) (r : Result A E) → IsErrAnd r (λ y. y ≡ f) → r ≡ Err f
 fault_is f (Ok a) e = absurd e
 fault_is f (Err y) e = ap Err e
 

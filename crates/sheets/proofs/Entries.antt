@@ -1,5 +1,5 @@
 -- Node lines, one after the other. Assumes nothing.
-use Rattle.std.proofs.Common.{◌≡◌, ℕ, suc, ◌+◌, ◌-◌, ◌<◌, ◌≤◌, Bool, true, false, not, ◌&&◌, eqb, ltb, List, [], ◌∷◌, ◌++◌, length, IsErrAnd, Some, None, Ok, Err, Option, Result, MatchOption, sym, refl, ap, ◌∙◌, subst, true≢false, arith, length-append, length-set, Bor, ltb-false, ltb-true, le-ltb, lt-ltb, ne_eqb}
+use Rattle.std.proofs.Common.{◌≡◌, ℕ, suc, ◌+◌, ◌-◌, ◌<◌, ◌≤◌, Bool, true, false, not, ◌&&◌, eqb, ltb, List, [], ◌∷◌, ◌++◌, length, IsErrAnd, Some, None, Ok, Err, Option, Result, is_ok, MatchOption, sym, refl, ap, ◌∙◌, subst, true≢false, arith, length-append, length-set, Bor, ltb-false, ltb-true, le-ltb, lt-ltb, ne_eqb}
 use Rattle.std.specs.Bool.{then_some}
 use Rattle.std.specs.Result.{result_ok}
 use Rattle.orders.specs.declared.refusal.Refusal.{Refusal}
@@ -20,7 +20,8 @@ use Rattle.sheets.specs.Gives.{Gives}
 use Rattle.diagrams.specs.declared.Branch.{Branch}
 use Rattle.sheets.specs.declared.reader.Reader.{Reader}
 use Rattle.sheets.specs.Reading.{branch_line, Stays}
-use Rattle.sheets.proofs.Keeps.{and_both, askable}
+use Rattle.std.proofs.lemmas.Bool.{and_parts}
+use Rattle.sheets.proofs.Keeps.{askable}
 
 tabled_on_push : (N : List Node) (ls : List NodeLine) (a : NodeLine) → tabled_on N (ls ++ (a ∷ [])) ≡ grown (tabled_on N ls) a
 tabled_on_push N [] a = refl
@@ -52,14 +53,14 @@ not_true false e = refl
 pub kept : (pieces : ℕ) (N : List Node) (a : NodeLine) → length N ≤ 2046 → keeps pieces N a ≡ true → Kept N a
 unfolding keeps
 kept pieces N a few e =
-    let p = and_both (paired pieces a) (earlier (length N + 2) a && placed N a) e in
-    let q = and_both (earlier (length N + 2) a) (placed N a) p.1 in
+    let p = and_parts (paired pieces a) (earlier (length N + 2) a && placed N a) e in
+    let q = and_parts (earlier (length N + 2) a) (placed N a) p.1 in
     let k = askable pieces N a few p.0 q.0 in
-    let t = and_both (ltb a.lo (length N + 2)) (ltb 0 a.hi && ltb a.hi (length N + 2)) q.0 in
-    let u = and_both (ltb 0 a.hi) (ltb a.hi (length N + 2)) t.1 in
+    let t = and_parts (ltb a.lo (length N + 2)) (ltb 0 a.hi && ltb a.hi (length N + 2)) q.0 in
+    let u = and_parts (ltb 0 a.hi) (ltb a.hi (length N + 2)) t.1 in
     let there = ltb (find N a.x a.y a.lo a.hi) (length N) in
-    let r = and_both (ltb (level_of N a.lo) (level a.x a.y)) (ltb (x_of N a.hi) a.x && not there) q.1 in
-    let s = and_both (ltb (x_of N a.hi) a.x) (not there) r.1 in
+    let r = and_parts (ltb (level_of N a.lo) (level a.x a.y)) (ltb (x_of N a.hi) a.x && not there) q.1 in
+    let s = and_parts (ltb (x_of N a.hi) a.x) (not there) r.1 in
     record {
       asks = record {
         x_max = k.x_max;
@@ -112,9 +113,9 @@ kept_in pieces N ls a e room k =
     let long : length N ≡ length ls = ap length e ∙ tabled_length ls in
     (omega arith, kept pieces N a (omega arith) k)
 
--- a node that is made stands last
+-- there is room for a node that is made, and it stands last
 pub made : (N M : List Node) (a : NodeLine) (r : Result ℕ Refusal) → Kept N a → length N < 2046 →
-    Makes (node 2046 N a.x a.y a.lo a.hi 0) M 0 r → M ≡ grown N a
+    Makes (node 2046 N a.x a.y a.lo a.hi 0) M 0 r → (is_ok r ≡ true) × (M ≡ grown N a)
 unfolding node
 made N M a r k room m = by r (subst (λ o. Makes o M 0 r) is m)
   where
@@ -126,8 +127,8 @@ made N M a r k room m = by r (subst (λ o. Makes o M 0 r) is m)
         ∙ ap (λ t. node_by N a.x a.y a.lo a.hi 0 false t (ltb (length N) 2046)) (le-ltb _ _ k.new)
         ∙ ap (λ t. node_by N a.x a.y a.lo a.hi 0 false false t) (lt-ltb _ _ room)
 
-    by : (r : Result ℕ Refusal) → Makes (done (grown N a) (suc (suc (length N))) 0) M 0 r → M ≡ grown N a
-    by (Ok n) h = h.0
+    by : (r : Result ℕ Refusal) → Makes (done (grown N a) (suc (suc (length N))) 0) M 0 r → (is_ok r ≡ true) × (M ≡ grown N a)
+    by (Ok n) h = (refl, h.0)
     by (Err e) h = absurd h
 
 -- one line, question by question
@@ -218,7 +219,7 @@ going_none start count text few = record {
   within = omega arith;
   few = omega arith;
   left = ap (λ n. rows n start.pieces (items_of start.lines.now) text) (let e : count ≡ count - 0 = omega arith in e);
-  stays = record { pieces = refl; lender = refl; memory = refl; list = refl };
+  stays = record { pieces = refl; lender = refl; list = record { lender = refl; long = refl } };
 }
 
 -- one step
@@ -235,8 +236,7 @@ module _ (start : Reader) (count : ℕ) (text : List ℕ) (now : Reader) (rest :
   stays_on = record {
     pieces = stays.pieces ∙ g.stays.pieces;
     lender = stays.lender ∙ g.stays.lender;
-    memory = stays.memory ∙ g.stays.memory;
-    list = stays.list ∙ g.stays.list;
+    list = record { lender = stays.list.lender ∙ g.stays.list.lender; long = stays.list.long ∙ g.stays.list.long };
   }
 
   pub going_more : (after : List ℕ) → items_of next.lines.now ≡ (rows 1 now.pieces (items_of now.lines.now) rest).0 →

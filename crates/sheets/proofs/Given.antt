@@ -1,12 +1,11 @@
--- A value that is there, or else a fault. Assumes nothing.
+-- A value that is there, or else an error. Assumes nothing.
 use Rattle.std.proofs.Common.{◌≡◌, ◌⊎◌, inl, inr, Bool, true, false, ap, IsErrAnd, Some, None, Ok, Err, Option, Result, sym, refl, ◌∙◌, subst, MatchOption, MatchResult}
 use Rattle.std.specs.Bool.{then_some}
 use Rattle.std.specs.Option.{ok_or}
-use Rattle.sheets.specs.declared.fault.Fault.{Fault}
 
-module _ {A : Type 0} (o : Option A) (f : Fault) (r : Result A Fault) (is : r ≡ ok_or o f) where
+module _ {A E : Type 0} (o : Option A) (f : E) (r : Result A E) (is : r ≡ ok_or o f) where
   -- what is answered, by what is known of the two
-  pub given : (No : Type 0) (Yes Y : A → Type 0) (N : Fault → Type 0) → MatchOption o No Yes → ((a : A) → Yes a → Y a) → (No → N f) → MatchResult r Y N
+  pub given : (No : Type 0) (Yes Y : A → Type 0) (N : E → Type 0) → MatchOption o No Yes → ((a : A) → Yes a → Y a) → (No → N f) → MatchResult r Y N
   given No Yes Y N m y n = subst (λ s. MatchResult s Y N) (sym is) (by o m)
     where
       by : (p : Option A) → MatchOption p No Yes → MatchResult (ok_or p f) Y N
@@ -20,7 +19,7 @@ module _ {A : Type 0} (o : Option A) (f : Fault) (r : Result A Fault) (is : r �
       by (Some b) q = cc
       by None q = cc
 
-  pub given_none : (g : Fault) → r ≡ Err g → (o ≡ None) × (g ≡ f)
+  pub given_none : (g : E) → r ≡ Err g → (o ≡ None) × (g ≡ f)
   given_none g e = by o (sym is ∙ e)
     where
       by : (p : Option A) → ok_or p f ≡ Err g → (p ≡ None) × (g ≡ f)
@@ -30,11 +29,11 @@ module _ {A : Type 0} (o : Option A) (f : Fault) (r : Result A Fault) (is : r �
   pub given_ok : (No : Type 0) (Yes : A → Type 0) → MatchOption o No Yes → (a : A) → r ≡ Ok a → Yes a
   given_ok No Yes m a e = subst (λ p. MatchOption p No Yes) (given_some a e) m
 
-  pub given_err : (No : Type 0) (Yes : A → Type 0) → MatchOption o No Yes → (g : Fault) → r ≡ Err g → No × (g ≡ f)
+  pub given_err : (No : Type 0) (Yes : A → Type 0) → MatchOption o No Yes → (g : E) → r ≡ Err g → No × (g ≡ f)
   given_err No Yes m g e = let n = given_none g e in (subst (λ p. MatchOption p No Yes) n.0 m, n.1)
 
--- an error that is made a fault
-module _ {A E : Type 0} (o : Result A E) (r : Result A Fault) (Post : E → Fault → Type 0) (m : MatchResult o (λ x. r ≡ Ok x) (λ e. IsErrAnd r (Post e))) where
+-- an error that is made another
+module _ {A E D : Type 0} (o : Result A E) (r : Result A D) (Post : E → D → Type 0) (m : MatchResult o (λ x. r ≡ Ok x) (λ e. IsErrAnd r (Post e))) where
   pub mapped_ok : (a : A) → r ≡ Ok a → o ≡ Ok a
   mapped_ok a e = by o m
     where
@@ -42,19 +41,12 @@ module _ {A E : Type 0} (o : Result A E) (r : Result A Fault) (Post : E → Faul
       by (Ok b) q = cc
       by (Err x) q = absurd (subst (λ s. IsErrAnd s (Post x)) e q)
 
-  pub mapped_err : (g : Fault) → r ≡ Err g → (x : E) × (o ≡ Err x) × Post x g
+  pub mapped_err : (g : D) → r ≡ Err g → (x : E) × (o ≡ Err x) × Post x g
   mapped_err g e = by o m
     where
       by : (p : Result A E) → MatchResult p (λ x. r ≡ Ok x) (λ e. IsErrAnd r (Post e)) → (x : E) × (p ≡ Err x) × Post x g
       by (Ok b) q = cc
       by (Err x) q = (x, refl, subst (λ s. IsErrAnd s (Post x)) e q)
-
--- what is known of a result, by what it is
-pub known_ok : {A E : Type 0} (r : Result A E) (Yes : A → Type 0) (No : E → Type 0) → MatchResult r Yes No → (a : A) → r ≡ Ok a → Yes a
-known_ok r Yes No m a e = subst (λ s. MatchResult s Yes No) e m
-
-pub known_err : {A E : Type 0} (r : Result A E) (Yes : A → Type 0) (No : E → Type 0) → MatchResult r Yes No → (x : E) → r ≡ Err x → No x
-known_err r Yes No m x e = subst (λ s. MatchResult s Yes No) e m
 
 -- a value that has to pass a test
 module _ {A : Type 0} (o p : Option A) (Post : A → Bool → Type 0) (m : MatchOption o (p ≡ None) (λ x. (b : Bool) × Post x b × (p ≡ then_some b x)))
@@ -85,6 +77,3 @@ module _ {A : Type 0} (o p : Option A) (Post : A → Bool → Type 0) (m : Match
       by : (r : Option A) → MatchOption r (p ≡ None) (λ x. (b : Bool) × Post x b × (p ≡ then_some b x)) → (r ≡ None) ⊎ ((x : A) × (r ≡ Some x) × (t x ≡ false))
       by (Some y) q = inr (y, refl, then_by y (t y) refl (by_test y q))
       by None q = inl refl
-
-pub known_some : {A : Type 0} (o : Option A) (No : Type 0) (Yes : A → Type 0) → MatchOption o No Yes → (a : A) → o ≡ Some a → Yes a
-known_some o No Yes m a e = subst (λ p. MatchOption p No Yes) e m

@@ -1,5 +1,6 @@
 -- The rules for nodes, asked of a line. Assumes nothing.
-use Rattle.std.proofs.Common.{◌≡◌, ℕ, ◌+◌, ◌<◌, ◌≤◌, Bool, true, false, not, ◌&&◌, ltb, List, length, is_some, sym, refl, ap, ◌∙◌, true≢false, arith, ltb-true, lt-ltb}
+use Rattle.std.proofs.Common.{◌≡◌, ℕ, ◌+◌, ◌<◌, ◌≤◌, Bool, true, false, not, ◌&&◌, ltb, List, length, is_some, sym, refl, ap, ◌∙◌, arith, ltb-true, lt-ltb}
+use Rattle.std.proofs.lemmas.Bool.{and_parts}
 use Rattle.lists.specs.declared.node_line.NodeLine.{NodeLine}
 use Rattle.diagrams.specs.declared.Node.{Node}
 use Rattle.diagrams.specs.Level.{level}
@@ -8,18 +9,14 @@ use Rattle.diagrams.specs.Rules.{find}
 use Rattle.tables.specs.Rows.{found, found_by}
 use Rattle.sheets.specs.Checks.{paired, earlier, Askable, placed, keeps}
 
-pub and_both : (a b : Bool) → (a && b) ≡ true → (a ≡ true) × (b ≡ true)
-and_both true b h = (refl, h)
-and_both false b h = absurd (true≢false (sym h))
-
 -- what the first questions give
 pub askable : (pieces : ℕ) (N : List Node) (a : NodeLine) → length N ≤ 2046 → paired pieces a ≡ true → earlier (length N + 2) a ≡ true → Askable N a
 askable pieces N a few p e =
-    let q = and_both (ltb a.x 17) (ltb a.x (pieces + 1) && (ltb 0 a.y && ltb a.y a.x)) p in
-    let r = and_both (ltb a.x (pieces + 1)) (ltb 0 a.y && ltb a.y a.x) q.1 in
-    let s = and_both (ltb 0 a.y) (ltb a.y a.x) r.1 in
-    let t = and_both (ltb a.lo (length N + 2)) (ltb 0 a.hi && ltb a.hi (length N + 2)) e in
-    let u = and_both (ltb 0 a.hi) (ltb a.hi (length N + 2)) t.1 in
+    let q = and_parts (ltb a.x 17) (ltb a.x (pieces + 1) && (ltb 0 a.y && ltb a.y a.x)) p in
+    let r = and_parts (ltb a.x (pieces + 1)) (ltb 0 a.y && ltb a.y a.x) q.1 in
+    let s = and_parts (ltb 0 a.y) (ltb a.y a.x) r.1 in
+    let t = and_parts (ltb a.lo (length N + 2)) (ltb 0 a.hi && ltb a.hi (length N + 2)) e in
+    let u = and_parts (ltb 0 a.hi) (ltb a.hi (length N + 2)) t.1 in
     record {
       x_max = let h = ltb-true a.x 17 q.0 in omega arith;
       y_min = let h = ltb-true 0 a.y s.0 in omega arith;

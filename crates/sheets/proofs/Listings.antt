@@ -11,18 +11,18 @@ use Rattle.diagrams.specs.Table.{Exists, Sound}
 use Rattle.forms.specs.Marks.{Marks, line_by, Marked}
 use Rattle.forms.specs.Walks.{reached, sheet_of}
 use Rattle.forms.proofs.Sheets.{reached_stands}
+use Rattle.sheets.specs.Reading.{Lent}
 use Rattle.sheets.proofs.Entries.{added}
 
 -- the lines of the first k of the numbers os are in the list
 pub record Listing (N : List Node) (ms os : List ℕ) (start now : Filled NodeLine) (k : ℕ) : Type 0 where
   pub within : k ≤ length os
   pub items : items_of now ≡ map (line_by N ms) (take k os)
-  pub list : length (room_of now) ≡ length (room_of start)
-  pub lender : now.room.ghost_name ≡ start.room.ghost_name
+  pub lent : Lent start now
 
 module _ (N : List Node) (ms os : List ℕ) (start : Filled NodeLine) where
   pub listing_none : items_of start ≡ [] → Listing N ms os start start 0
-  listing_none e = record { within = omega arith; items = e; list = refl; lender = refl }
+  listing_none e = record { within = omega arith; items = e; lent = record { lender = refl; long = refl } }
 
   pub listing_more : (now next : Filled NodeLine) (k : ℕ) (a : NodeLine) (r : Result ℕ Refusal) → Listing N ms os start now k → k < length os →
       length os ≤ length (room_of start) → a ≡ line_by N ms (get_or os k 0) → Added now next a r →
@@ -30,12 +30,11 @@ module _ (N : List Node) (ms os : List ℕ) (start : Filled NodeLine) where
   listing_more now next k a r L h room is w lend =
       let size = length-map (take k os) (line_by N ms) in
       let few = length-take-le k os (omega arith) in
-      let e = added now next a r w (omega (arith, ap length L.items, L.list)) in
+      let e = added now next a r w (omega (arith, ap length L.items, L.lent.long)) in
       record {
         within = omega arith;
         items = e.0 ∙ ap₂ (λ (l : List NodeLine) (b : NodeLine). l ++ (b ∷ [])) L.items is ∙ sym (map_more (line_by N ms) os k 0 (omega arith));
-        list = e.1 ∙ L.list;
-        lender = lend ∙ L.lender;
+        lent = record { lender = lend ∙ L.lent.lender; long = e.1 ∙ L.lent.long };
       }
 
   pub listing_all : (now : Filled NodeLine) (k root : ℕ) → Listing N ms os start now k → length os ≤ k → Marked N root record { marks = ms; order = os } →

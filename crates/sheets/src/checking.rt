@@ -5,6 +5,7 @@ ghost use Rattle.lists.specs.declared.node_line.NodeLine.{NodeLine};
 ghost use Rattle.tables.specs.Rows.{rows as rows_of};
 ghost use Rattle.sheets.specs.declared.fault.Fault.{Fault};
 ghost use Rattle.sheets.specs.Own.{Own};
+ghost use Rattle.sheets.specs.Reading.{Lent};
 ghost use Rattle.sheets.specs.Checks.{root_of, counts, finish, checked, Outcome};
 
 use super::fault::{Fault, Part};
@@ -15,7 +16,7 @@ use super::top::read_top;
 use super::visit::numbered;
 use lists::{Filled, NodeLine};
 use orders::Refusal;
-use tables::Table;
+use tables::{ROOM, Table};
 
 // A sheet that was accepted: the number of its root among its lines, and how many orders its set has.
 #[derive(Clone, Copy)]
@@ -33,7 +34,7 @@ fn first_off(marks: &[u32]) -> Option<usize>
 {
     marks
         .iter()
-        .zip(2..2048)
+        .zip(2..ROOM as u32 + 2)
         .position(|(mark, own)| *mark != own)
 }
 
@@ -68,7 +69,7 @@ fn finish(rest: &[u8], table: &Table, orders: u64) -> Result<Checked, Fault>
     Ok(Checked { root, orders })
 }
 
-// Checks a whole sheet for a store of so many pieces over a chain. The list is emptied, and then has the lines that kept the rules.
+// Checks a whole sheet for a store of so many pieces over a chain, by its code, as line 2 has it. The list is emptied, and then has the lines that kept the rules.
 pub fn check(
     text: &[u8],
     pieces: u8,
@@ -77,8 +78,7 @@ pub fn check(
 ) -> Result<Checked, Fault>
     requires room { 2046 ≤ length (room_of lines.old) }
     ensures is { ◌≡◌ {A = List NodeLine × Result Checked Fault} (items_of lines.new, result) (checked pieces chain text.now) }
-    ensures list { length (room_of lines.new) ≡ length (room_of lines.old) }
-    ensures lender { lines.new.room.ghost_name ≡ lines.old.room.ghost_name }
+    ensures lent { Lent lines.old lines.new }
 {
     lines.clear();
     let mut reader = Reader {

@@ -51,12 +51,12 @@ impl fmt::Display for Part {
     ghost output = { λ p. Some (part_name p) };
 
     fn fmt<W: fmt::Write>(&self, f: &mut fmt::Formatter<W>) -> fmt::Result {
-        match self {
-            Part::Line => write!(f, "line"),
-            Part::Sheet => write!(f, "sheet"),
-            Part::Store => write!(f, "store"),
-            Part::Book => write!(f, "book"),
-        }
+        f.write_str(match self {
+            Part::Line => "line",
+            Part::Sheet => "sheet",
+            Part::Store => "store",
+            Part::Book => "book",
+        })
     }
 }
 

@@ -4,12 +4,14 @@ ghost use Rattle.lists.specs.Items.{items_of, room_of};
 ghost use Rattle.diagrams.specs.Table.{Exists};
 ghost use Rattle.forms.specs.Marks.{taken, line_by};
 ghost use Rattle.forms.specs.Walks.{sheet_of};
+ghost use Rattle.sheets.specs.Reading.{Lent};
 
 use super::nodes::Nodes;
 use super::visit::numbered;
 use lists::{Filled, NodeLine};
 
-// What a list of numbers gives to the number `k`: 0 and 1 keep theirs, and what is beyond the list gets 0.
+// What a list of numbers gives to the number `k`: 0 and 1 keep theirs, and what is beyond the list gets 0. The definition gives the empty set
+// there; a checked sheet never asks it.
 pub fn number_of(numbers: &[u32], k: u64) -> u32
     ensures { result ≡ taken numbers.now k }
 {
@@ -40,13 +42,12 @@ pub fn list_lines(nodes: Nodes, root: u32, lines: &mut Filled<NodeLine>)
     requires within { Exists nodes.rows.now root }
     requires room { 2046 ≤ length (room_of lines.old) }
     ensures items { items_of lines.new ≡ (sheet_of nodes.entry.rows.now root).lines }
-    ensures list { length (room_of lines.new) ≡ length (room_of lines.old) }
-    ensures lender { lines.new.room.ghost_name ≡ lines.old.room.ghost_name }
+    ensures lent { Lent lines.old lines.new }
 {
     lines.clear();
     let visit = numbered(nodes, root);
     let marks = &visit.marks;
     for n in &visit.order[..visit.count] {
-        let _ = lines.add(line_of(nodes, marks, *n));
+        lines.add(line_of(nodes, marks, *n)).unwrap();
     }
 }

@@ -5,8 +5,8 @@ ghost use Rattle.forms.specs.Marks.{zeros};
 use super::nodes::Nodes;
 use tables::ROOM;
 
-// A mark for each node, 0 where the visit did not come, and the nodes' numbers in its order. The library keeps fixed memory, so the order is an
-// array of which the first `count` are meant.
+// A mark for each node, 0 where the visit did not come, and the nodes' numbers in its order. 0 is no node's number, and the theory of marks counts
+// the zeros, so the marks are no Options. The library keeps fixed memory, so the order is an array of which the first `count` are meant.
 #[derive(Clone, Copy)]
 pub struct Numbering {
     pub marks: [u32; ROOM],

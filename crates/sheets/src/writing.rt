@@ -39,8 +39,8 @@ fn put_rows(page: &mut Filled<u8>, lines: &[NodeLine]) -> Result<(), Refusal>
     Ok(())
 }
 
-// Writes the sheet of a chain's set at the start of the page, from its count of orders and its lines, and answers where it ends. Where the
-// page is too short, nothing changes.
+// Writes the sheet of a chain's set at the start of the page, from the chain by its code, as line 2 has it, the count of orders and the lines, and
+// answers where it ends. Where the page is too short, nothing changes.
 pub fn write_sheet(
     page: &mut [u8],
     chain: u8,

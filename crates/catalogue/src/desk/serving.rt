@@ -45,9 +45,7 @@ impl<G: Chain, C: Cache> Desk<G, C> {
     fn release(&mut self, claim: Claim) -> Result<(), (Refusal, Claim)>
         ensures { Releases self.old.store claim self.new.store result }
     {
-        let Some(hold) = self.rack.take(claim) else {
-            return Err((Refusal::NoSuchHold, claim));
-        };
+        let hold = self.rack.take(claim).ok_or((Refusal::NoSuchHold, claim))?;
         self.store.give_back(hold);
         Ok(())
     }
@@ -56,10 +54,8 @@ impl<G: Chain, C: Cache> Desk<G, C> {
     fn held(&self, claim: Claim) -> Result<Handle, Refusal>
         ensures { result ≡ handle_held (view self.now.store) (hold_named claim) }
     {
-        match self.rack.find(claim) {
-            Some(hold) => self.store.held(hold),
-            None => Err(Refusal::NoSuchHold),
-        }
+        let hold = self.rack.find(claim).ok_or(Refusal::NoSuchHold)?;
+        self.store.held(hold)
     }
 
     // How many orders a set has.

@@ -1,8 +1,8 @@
 // The sheet of a set, in memory of its own.
-ghost use Rattle.std.specs.Prelude.{◌≡◌, ◌≤◌, length, take, IfOk};
+ghost use Rattle.std.specs.Prelude.{◌≡◌, IfOk};
 ghost use Rattle.store.specs.Views.{view};
 ghost use Rattle.store.specs.Questions.{handle_asked};
-ghost use Rattle.deposits.specs.Writing.{sheet_text};
+ghost use Rattle.deposits.specs.Writing.{sheet_text, Writes};
 ghost use Rattle.catalogue.specs.Calls.{sheet_on};
 ghost use Rattle.catalogue.specs.Requests.{handle_named, bytes_of, page};
 
@@ -16,12 +16,16 @@ use store::Store;
 // How long the page is that a sheet is written on.
 const PAGE: usize = 40000;
 
-// The first bytes of a page.
-fn front(heap: Global, page: &[u8], end: usize) -> Result<Vec<u8>, AllocError>
-    requires { end ≤ length page.now }
-    ensures { IfOk result (λ v. v.items ≡ take end page.now) }
+// Writes the sheet of a named set at the start of a page, and answers where it ends.
+fn written<G: Chain, C: Cache>(
+    store: &Store<G, C>,
+    name: Name,
+    page: &mut [u8],
+) -> Result<usize, Refusal>
+    ensures { Writes G.CODE (view store.now) (handle_named name) page.old page.new result }
 {
-    page[0..end].to_vec(heap)
+    let handle = name.known(store)?;
+    write(store, handle, page)
 }
 
 // The sheet of a set.
@@ -32,13 +36,9 @@ pub fn sheet<G: Chain, C: Cache>(
 ) -> Result<Result<Vec<u8>, Refusal>, AllocError>
     ensures { IfOk result (λ b. bytes_of b ≡ sheet_on (handle_asked (view store.now) (handle_named name)) (sheet_text G.CODE (view store.now).nodes name.number) page) }
 {
-    let handle = match name.known(store) {
-        Ok(handle) => handle,
-        Err(refusal) => return Ok(Err(refusal)),
-    };
     let mut page = [0; PAGE];
-    match write(store, handle, &mut page) {
-        Ok(end) => Ok(Ok(front(heap, &page, end)?)),
+    match written(store, name, &mut page) {
+        Ok(end) => Ok(Ok(page[..end].to_vec(heap)?)),
         Err(refusal) => Ok(Err(refusal)),
     }
 }

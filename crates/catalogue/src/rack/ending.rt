@@ -9,7 +9,7 @@ use orders::Chain;
 use store::Store;
 
 impl Rack {
-    // Gives every hold back, from the last peg to the first.
+    // Gives every hold back, from the last peg to the first. A hold cannot be let go, so each case is written out.
     pub(crate) fn give_back<G: Chain, C: Cache>(self, store: &mut Store<G, C>)
         requires { Racked (view store.old) (slots_of self) }
         ensures { view store.new ≡ unpegged (view store.old) }

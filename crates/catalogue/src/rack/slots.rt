@@ -3,13 +3,13 @@ ghost use Rattle.std.specs.Prelude.{◌≡◌, ◌<◌, replicate, IfOk, Some, N
 ghost use Rattle.catalogue.specs.Requests.{hold_named};
 ghost use Rattle.catalogue.specs.Racks.{slots_of, Lacks, Took};
 
-use super::{Rack, SLOTS};
+use super::Rack;
 use crate::request::Claim;
 use std::alloc::{AllocError, Global};
-use std::mem;
 use store::Hold;
+use sweeps::PEGS;
 
-// An empty slot may be let go.
+// An empty slot may be let go. A hold cannot, so each case is written out.
 fn none_left(slot: Option<Hold>)
     requires { slot ≡ None }
 {
@@ -24,8 +24,9 @@ impl Rack {
     pub(crate) fn new(heap: Global) -> Result<Rack, AllocError>
         ensures { IfOk result (λ k. slots_of k ≡ replicate 64 None) }
     {
-        let mut slots = Vec::with_capacity(heap, SLOTS)?;
-        for _ in 0..SLOTS {
+        // The room is there before the first push, so a rack half made is never let go.
+        let mut slots = Vec::with_capacity(heap, PEGS)?;
+        for _ in 0..PEGS {
             match slots.push(None) {
                 Ok(()) => {}
                 Err(_refused) => unreachable(),
@@ -38,7 +39,7 @@ impl Rack {
     pub(crate) fn find(&self, claim: Claim) -> Option<&Hold>
         ensures { MatchOption result (Lacks (slots_of self.now) claim) (λ h. (h.now ≡ hold_named claim) × (slice_index_or (slots_of self.now) claim.peg None ≡ Some (hold_named claim))) }
     {
-        if claim.peg >= SLOTS as u64 {
+        if claim.peg >= PEGS as u64 {
             return None;
         }
         let hold = self.slots[claim.peg as usize].as_ref()?;
@@ -55,7 +56,7 @@ impl Rack {
         if self.find(claim).is_none() {
             return None;
         }
-        mem::replace(&mut self.slots[claim.peg as usize], None)
+        self.slots[claim.peg as usize].take()
     }
 
     // A hold goes into an empty slot.
@@ -64,6 +65,6 @@ impl Rack {
         requires empty { slice_index_or (slots_of self.old) slot None ≡ None }
         ensures { slots_of self.new ≡ slice_set (slots_of self.old) slot (Some hold) }
     {
-        none_left(mem::replace(&mut self.slots[slot], Some(hold)));
+        none_left(self.slots[slot].replace(hold));
     }
 }

@@ -24,8 +24,8 @@ impl Reader<'_, '_> {
         ensures items { items_of self.new.lines.now ≡ items_of self.old.lines.now ++ (line ∷ []) }
         ensures stays { Stays self.old self.new }
     {
-        let _ = self.table.node(ROOM, branch);
-        let _ = self.lines.add(line);
+        self.table.node(ROOM, branch).unwrap();
+        self.lines.add(line).unwrap();
     }
 
     // One node line: 14, then 16. What keeps the rules is entered.

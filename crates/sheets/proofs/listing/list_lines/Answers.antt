@@ -28,6 +28,8 @@ returns c =
     record {
       items = listing_all c.args.nodes.rows.now v.marks (take v.count v.order) c.clear.new.self c.loop-n.lines c.loop-n.n-index c.args.root c.loop-n.invariant c.loop-n-test.false
           c.numbered-visit.ensures.visit;
-      list = c.loop-n.invariant.list ∙ ap length c.clear.ensures.room;
-      lender = c.loop-n.invariant.lender ∙ c.clear.ensures.lender;
+      lent = record {
+        lender = c.loop-n.invariant.lent.lender ∙ c.clear.ensures.lender;
+        long = c.loop-n.invariant.lent.long ∙ ap length c.clear.ensures.room;
+      };
     }

@@ -16,5 +16,5 @@ returns c =
     let s = slots_of c.args.self.now in
     let peg = c.args.claim.peg in
     let there = found_there (λ x. x.now) s c.args.claim c.find.result c.find.ensures c.if-is_none.ensures in
-    let out = c.replace.ensures.value ∙ get_or_read s peg _ (some_within s peg _ there) c.index_mut.ensures.value None in
-    took s c.args.claim c.replace.result c.replace.new.dest _ there (out ∙ there) c.replace.ensures.after
+    let out = c.take.ensures.value ∙ get_or_read s peg _ (some_within s peg _ there) c.index_mut.ensures.value None in
+    took s c.args.claim c.take.result c.take.new.self _ there (out ∙ there) c.take.ensures.after
