@@ -1,9 +1,7 @@
 // A table of nodes that look random, the same at each run.
-ghost use Rattle.std.specs.Prelude.{◌<◌, ◌≤◌};
-ghost use Rattle.diagrams.specs.Table.{Exists};
-ghost use Rattle.tables.specs.Rows.{rows};
+ghost use Rattle.std.specs.Prelude.{◌<◌};
 
-use diagrams::{Branch, level};
+use diagrams::Branch;
 use tables::{ROOM, Table};
 
 // How many nodes are tried: many of them break a rule for nodes.
@@ -32,18 +30,10 @@ impl Dice {
     }
 }
 
-// Makes the node of four values if its parts are low enough, and there is room.
-fn add(table: &mut Table, x: u8, y: u8, lo: u32, hi: u32)
-    requires most { x ≤ 16 }
-    requires least { 1 ≤ y }
-    requires below { y < x }
-    requires low { Exists (rows table.old) lo }
-    requires high { Exists (rows table.old) hi }
-{
-    let low = table.get(lo);
-    let high = table.get(hi);
-    if level(low.x, low.y) < level(x, y) && high.x < x {
-        let _ = table.node(ROOM, Branch { x, y, lo, hi });
+// Makes the node of a branch if it keeps the rules, and there is room.
+fn add(table: &mut Table, branch: Branch) {
+    if table.may_stand(16, branch) {
+        let _ = table.node(ROOM, branch);
     }
 }
 
@@ -54,7 +44,7 @@ fn attempt(table: &mut Table, dice: &mut Dice) {
     let numbers = table.len() as u64 + 2;
     let lo = dice.below(numbers) as u32;
     let hi = dice.below(numbers.min(EARLY)) as u32;
-    add(table, x, y, lo, hi);
+    add(table, Branch { x, y, lo, hi });
 }
 
 // Fills a table.

@@ -13,6 +13,7 @@ pub use slots::Slots;
 // A question: what kind of work, on which two numbers.
 #[derive(Clone, Copy, PartialEq, Eq)]
 pub struct Triple {
+    // Any byte: a cache knows no kinds of work, and tells questions apart by numbers alone.
     pub kind: u8,
     pub first: u64,
     pub second: u64,
@@ -20,7 +21,7 @@ pub struct Triple {
 
 // A set of pairs, each a triple and its one answer.
 pub trait Cache {
-    // Whether the pair just told is sure to be remembered: 1, or 0.
+    // Whether the pair just told is sure to be remembered: 1 or 0, and no bool, as the law of `tell` names it.
     const SURE: u8;
 
     ghost SURE: { ℕ };

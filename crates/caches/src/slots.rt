@@ -16,7 +16,7 @@ pub struct Pair {
     answer: u32,
 }
 
-// The slots.
+// The slots. A plain struct within, made of the array of empty slots: a cache asks for no memory.
 #[derive(Drop)]
 pub struct Row {
     pairs: [Option<Pair>; SIZE],

@@ -9,10 +9,11 @@ use growth::grown;
 use orders::Swap;
 use report::{Line, Printed, REPORT};
 use store::{Plan, Store};
+use tables::ROOM;
 
 // The figures of a number of pieces, each beside the printed one.
 fn tell(rt: &HostRuntime, printed: Printed) -> anyhow::Result<()> {
-    let plan = Plan::new(u64::from(printed.pieces), 2046, 0, 0)?;
+    let plan = Plan::new(u64::from(printed.pieces), ROOM as u64, 0, 0)?;
     let mut store = Store::begin(plan, Swap, Slots::new());
     let found = grown(rt.alloc(), &mut store, printed.pieces)?;
     let line = Line { found, printed };

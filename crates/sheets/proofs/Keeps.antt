@@ -1,13 +1,13 @@
 -- The rules for nodes, asked of a line. Assumes nothing.
-use Rattle.std.proofs.Common.{◌≡◌, ℕ, ◌+◌, ◌<◌, ◌≤◌, Bool, true, false, not, ◌&&◌, ltb, List, length, is_some, sym, refl, ap, ◌∙◌, arith, ltb-true, lt-ltb}
+use Rattle.std.proofs.Common.{◌≡◌, ℕ, ◌+◌, ◌≤◌, Bool, true, false, not, ◌&&◌, ltb, List, length, is_some, sym, refl, ap, ◌∙◌, arith, ltb-true}
 use Rattle.std.proofs.lemmas.Bool.{and_parts}
+use Rattle.std.proofs.lemmas.Bool.Decides.{nat_tests}
 use Rattle.lists.specs.declared.node_line.NodeLine.{NodeLine}
 use Rattle.diagrams.specs.declared.Node.{Node}
-use Rattle.diagrams.specs.Level.{level}
-use Rattle.diagrams.specs.Table.{x_of, level_of}
 use Rattle.diagrams.specs.Rules.{find}
 use Rattle.tables.specs.Rows.{found, found_by}
-use Rattle.sheets.specs.Checks.{paired, earlier, Askable, placed, keeps}
+use Rattle.tables.specs.Rules.{stands}
+use Rattle.sheets.specs.Checks.{paired, earlier, Askable, keeps}
 
 -- what the first questions give
 pub askable : (pieces : ℕ) (N : List Node) (a : NodeLine) → length N ≤ 2046 → paired pieces a ≡ true → earlier (length N + 2) a ≡ true → Askable N a
@@ -37,26 +37,16 @@ none_found N x y lo hi b = by (ltb (find N x y lo hi) (length N)) b
     by false true e = refl
     by false false e = e
 
-module _ (N : List Node) (a : NodeLine) where
-  module _ (low : level_of N a.lo < level a.x a.y) where
-    then_x : placed N a ≡ (ltb (x_of N a.hi) a.x && not (ltb (find N a.x a.y a.lo a.hi) (length N)))
-    then_x = ap (λ t. t && (ltb (x_of N a.hi) a.x && not (ltb (find N a.x a.y a.lo a.hi) (length N)))) (lt-ltb _ _ low)
-
-    pub placed_by : x_of N a.hi < a.x → (b : Bool) → is_some (found N a.x a.y a.lo a.hi) ≡ not b → b ≡ placed N a
-    placed_by h b e =
-        none_found N a.x a.y a.lo a.hi b e
-        ∙ sym (then_x ∙ ap (λ t. t && not (ltb (find N a.x a.y a.lo a.hi) (length N))) (lt-ltb _ _ h))
-
--- the questions in their order
+-- a line keeps the rules where its branch may stand and is not found
 module _ (pieces : ℕ) (N : List Node) (a : NodeLine) where
-  pub keeps_no_pair : paired pieces a ≡ false → false ≡ keeps pieces N a
-  unfolding keeps
-  keeps_no_pair e = sym (ap (λ t. t && (earlier (length N + 2) a && placed N a)) e)
+  keeps_stands : keeps pieces N a ≡ (stands N pieces a.x a.y a.lo a.hi && not (ltb (find N a.x a.y a.lo a.hi) (length N)))
+  unfolding keeps stands
+  keeps_stands = grind (arith, nat_tests)
 
-  pub keeps_not_earlier : paired pieces a ≡ true → earlier (length N + 2) a ≡ false → false ≡ keeps pieces N a
-  unfolding keeps
-  keeps_not_earlier p e = sym (ap (λ t. t && (earlier (length N + 2) a && placed N a)) p ∙ ap (λ t. t && placed N a) e)
+  pub keeps_new : stands N pieces a.x a.y a.lo a.hi ≡ true → (b : Bool) → is_some (found N a.x a.y a.lo a.hi) ≡ not b → b ≡ keeps pieces N a
+  keeps_new s b e =
+      none_found N a.x a.y a.lo a.hi b e
+      ∙ sym (keeps_stands ∙ ap (λ t. t && not (ltb (find N a.x a.y a.lo a.hi) (length N))) s)
 
-  pub keeps_by : paired pieces a ≡ true → earlier (length N + 2) a ≡ true → placed N a ≡ keeps pieces N a
-  unfolding keeps
-  keeps_by p e = sym (ap (λ t. t && (earlier (length N + 2) a && placed N a)) p ∙ ap (λ t. t && placed N a) e)
+  pub keeps_not : stands N pieces a.x a.y a.lo a.hi ≡ false → false ≡ keeps pieces N a
+  keeps_not s = sym (keeps_stands ∙ ap (λ t. t && not (ltb (find N a.x a.y a.lo a.hi) (length N))) s)

@@ -1,37 +1,40 @@
 -- A node that is found or added by its four values. Assumes nothing.
-use Rattle.std.proofs.Common.{◌≡◌, ℕ, ◌^◌, length, ◌<◌, ◌≤◌, Bool, true, false, ◌&&◌, ltb, List, Ok, Err, Result, sym, refl, ap, ◌∙◌, subst, arith}
+use Rattle.std.proofs.Common.{◌≡◌, ℕ, ◌^◌, length, ◌<◌, ◌≤◌, Bool, true, false, ltb, List, Ok, Err, Result, sym, refl, ap, ◌∙◌, subst, arith}
 use Rattle.std.proofs.lemmas.Bool.Decides.{nat_tests}
 use Rattle.orders.specs.declared.order.Order.{Order}
 use Rattle.orders.specs.declared.refusal.Refusal.{Refusal}
 use Rattle.orders.specs.declared.refusal.Refusal.TheVariants.{BadNode}
+use Rattle.diagrams.specs.declared.Branch.{Branch}
 use Rattle.diagrams.specs.declared.Node.{Node}
 use Rattle.diagrams.specs.Moves.{Moves}
-use Rattle.diagrams.specs.Level.{level}
-use Rattle.diagrams.specs.Table.{Exists, Extends, Sound, x_of, level_of}
+use Rattle.diagrams.specs.Table.{Extends, Sound}
 use Rattle.diagrams.specs.Rules.{Outcome, done, full, node, Asks, NodeSet}
 use Rattle.diagrams.specs.Rules as rules
 use Rattle.diagrams.proofs.Pushes.{node_makes}
 use Rattle.tables.specs.Rows.{Makes}
+use Rattle.tables.specs.Rules.{stands}
 use Rattle.store.specs.Views.{View, room_of}
 use Rattle.store.specs.Steps.{declined, adds, worked, step, node_asked, keeps_rules}
 
 module _ (w : View) (x y lo hi : ℕ) where
-  -- the tests of the code, one after the other
-  module _ (few : x ≤ w.plan.pieces) (least : 1 ≤ y) (below : y < x) (low : Exists w.nodes lo) (high : Exists w.nodes hi) (some : 1 ≤ hi) where
-    keeps : keeps_rules w x y lo hi ≡ ltb (level_of w.nodes lo) (level x y) && ltb (x_of w.nodes hi) x
-    unfolding keeps_rules
-    keeps = grind (arith, nat_tests)
+  -- a plan has at most 16 pieces
+  pub keeps_stands : keeps_rules w x y lo hi ≡ stands w.nodes w.plan.pieces x y lo hi
+  unfolding keeps_rules stands
+  keeps_stands = by (ltb w.plan.pieces x) refl
+    where
+      by : (b : Bool) → ltb w.plan.pieces x ≡ b → keeps_rules w x y lo hi ≡ stands w.nodes w.plan.pieces x y lo hi
+      by true e = let most = w.plan.most in grind (arith, nat_tests)
+      by false e = let most = w.plan.most in grind (arith, nat_tests)
 
-    pub keeps_lower : (l m h : ℕ) → l ≡ level_of w.nodes lo → m ≡ level x y → h ≡ x_of w.nodes hi → l < m → ltb h x ≡ keeps_rules w x y lo hi
-    keeps_lower l m h e f d less =
-        let t : ltb (level_of w.nodes lo) (level x y) ≡ true = grind (arith, nat_tests) in
-        sym (keeps ∙ ap (λ b. b && ltb (x_of w.nodes hi) x) t ∙ ap (λ n. ltb n x) (sym d))
-
-    pub keeps_not : (l m : ℕ) → l ≡ level_of w.nodes lo → m ≡ level x y → m ≤ l → ltb l m ≡ keeps_rules w x y lo hi
-    keeps_not l m e f less =
-        let t : ltb (level_of w.nodes lo) (level x y) ≡ false = grind (arith, nat_tests) in
-        let u : ltb l m ≡ false = grind (arith, nat_tests) in
-        u ∙ sym (keeps ∙ ap (λ b. b && ltb (x_of w.nodes hi) x) t)
+  -- what a table answers of a branch with these values
+  pub keeps_by : (N : List Node) (pieces : ℕ) (a : Branch) (r b : Bool) → N ≡ w.nodes → pieces ≡ w.plan.pieces → a ≡ record { x = x; y = y; lo = lo; hi = hi }
+      → r ≡ stands N pieces a.x a.y a.lo a.hi → r ≡ b → keeps_rules w x y lo hi ≡ b
+  keeps_by N pieces a r b n p e s t =
+      keeps_stands
+      ∙ sym (ap (λ M. stands M w.plan.pieces x y lo hi) n)
+      ∙ sym (ap (λ k. stands N k x y lo hi) p)
+      ∙ sym (ap (λ (q : Branch). stands N pieces q.x q.y q.lo q.hi) e)
+      ∙ sym s ∙ t
 
   -- values that keep the rules may be asked for
   pub keeps_asks : keeps_rules w x y lo hi ≡ true → Asks w.nodes x y lo hi × (x ≤ 16) × (1 ≤ hi)

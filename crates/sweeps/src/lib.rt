@@ -6,7 +6,7 @@ ghost use Rattle.tables.specs.Rows.{rows};
 ghost use Rattle.sweeps.specs.Reaching.{Pegs};
 ghost use Rattle.sweeps.specs.Sweeping.{swept, pegs_after};
 
-use tables::Table;
+use tables::{ROOM, Table};
 
 mod marking;
 mod remaking;
@@ -21,7 +21,7 @@ pub const PEGS: usize = 64;
 
 // How many numbers a table can have: 0, 1 and those of its nodes. Marks and new numbers stand in two arrays of this length, since all marks are
 // set before the first new number is known.
-const NUMBERS: usize = 2048;
+const NUMBERS: usize = ROOM + 2;
 
 // What a sweep leaves: the table, and the pegs with the new numbers of their sets.
 #[derive(Drop)]

@@ -31,6 +31,7 @@ pub fn made_again(table: &Table, marks: &[bool; NUMBERS]) -> Remade
     ensures { Remaking (rows table.now) (test marks.now) (length (rows table.now)) (rows result.table) result.numbers }
 {
     let mut fresh = Table::new();
+    // What is not marked is never looked up, so its 0 is never read.
     let mut numbers = ends();
     for (i, node) in table.nodes().iter().enumerate() {
         if marks[i + 2] {
@@ -57,6 +58,7 @@ pub fn moved(pegs: [Option<u32>; PEGS], numbers: &[u32; NUMBERS]) -> [Option<u32
     requires { (p n : ℕ) → slice_index_or pegs p empty ≡ Some n → n < 2048 }
     ensures { result ≡ map (on_peg (λ n. slice_index numbers.now n)) pegs }
 {
+    // Not `pegs.map(..)`: tried, and no proof of what `map` asks at each turn.
     let mut after = pegs;
     for peg in &mut after {
         *peg = peg.map(|number| numbers[number as usize]);

@@ -1,4 +1,5 @@
 pub mod Rows
 mod Chains
 mod Makings
+pub mod Standing
 mod Walks

@@ -1,2 +1,3 @@
 pub mod Hashing
 pub mod Rows
+pub mod Rules

@@ -9,6 +9,7 @@ mod buckets;
 mod finding;
 mod making;
 mod reading;
+mod rules;
 
 // How many nodes a table has room for.
 pub const ROOM: usize = 2046;
@@ -17,8 +18,8 @@ pub const ROOM: usize = 2046;
 const BUCKETS: usize = 4096;
 
 // The nodes are the first `len`, and the node at `i` has the number `i + 2`. `heads` has for each bucket the number of
-// its last node, and `next` for each node the number of the last before it in its bucket. The nodes stand by themselves, and not each with its
-// `next`, since they are lent as a slice; and in arrays, since a store asks for no memory.
+// its last node, if any, and `next` for each node the number of the last before it in its bucket, if any. The nodes stand by themselves, and not
+// each with its `next`, since they are lent as a slice; and in arrays, since a store asks for no memory.
 #[derive(Drop)]
 pub struct Table {
     nodes: [Node; ROOM],

@@ -4,14 +4,14 @@ ghost use Rattle.diagrams.specs.Bodies.{row};
 ghost use Rattle.diagrams.specs.Table.{Sound};
 ghost use Rattle.store.specs.Views.{view};
 ghost use Rattle.store.specs.Questions.{answered, number_asked};
-ghost use Rattle.store.specs.Steps.{adds, keeps_rules};
+ghost use Rattle.store.specs.Steps.{adds};
 ghost use Rattle.store.specs.Standing.{Stands, Falls};
 ghost use Rattle.store.specs.Does.{Does, handle_reply};
 
 use super::Store;
 use crate::shapes::Handle;
 use caches::Cache;
-use diagrams::{Branch, Node, level};
+use diagrams::{Branch, Node};
 use lists::NodeLine;
 use orders::{Chain, Refusal};
 
@@ -35,27 +35,12 @@ impl<G: Chain, C: Cache> Store<G, C> {
         self.engine.table().nodes()
     }
 
-    // Whether a branch is that of a node that may stand in the store.
-    fn may_stand(&self, branch: Branch) -> bool
-        ensures { result ≡ keeps_rules (view self.now) branch.x branch.y branch.lo branch.hi }
-    {
-        let Branch { x, y, lo, hi } = branch;
-        let table = self.engine.table();
-        if x > self.plan.pieces() || y < 1 || y >= x || hi < 1 {
-            return false;
-        }
-        if !table.exists(lo) || !table.exists(hi) {
-            return false;
-        }
-        table.level_of(lo) < level(x, y) && table.get(hi).x < x
-    }
-
     // The branch that four values make of a node that may stand in the store; refused by 16 where they make none.
     fn branch_of(&self, line: NodeLine) -> Result<Branch, Refusal>
         ensures { MatchResult result (Stands (view self.now) line) (Falls (view self.now) line) }
     {
         let branch = Branch::try_from(line)?;
-        if !self.may_stand(branch) {
+        if !self.engine.table().may_stand(self.plan.pieces(), branch) {
             return Err(Refusal::BadNode);
         }
         Ok(branch)

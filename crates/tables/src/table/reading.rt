@@ -71,6 +71,7 @@ impl Table {
     }
 
     // The row of a number: its node, or what stands for one at 0 and 1.
+    // That a number exists is asked beside it, here and below: a number goes into tasks and nodes, and outlives the loan of the table.
     pub fn get(&self, number: u32) -> Node
         requires { Exists (rows self.now) number }
         ensures { result ≡ row_of (rows self.now) number }
