@@ -28,5 +28,5 @@ invariant_of-self-2 g c =
     let yes = accepted (handle_asked (view d.store) name) name c.in_ok-handle.handle c.in_ok-handle.ensures in
     record {
       racked = ∥∥₁_map d.racked (λ k. held_racked d.store c.hold.new.self c.args.name c.in_ok-handle.handle c.args.peg c.in_ok-hold.hold yes.1 c.in_ok-hold.ensures.does
-          (slots_of d.rack) (slots_of c.put.new.self) d.store.racked k c.put.ensures);
+          (slots_of d.rack) (slots_of c.put.new.self) d.store.long k c.put.ensures);
     }

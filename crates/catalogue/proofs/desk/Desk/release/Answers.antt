@@ -37,5 +37,5 @@ invariant_of-self-2 g c =
     let d = c.args.self.now in
     let took = given_ok c.take.result (NoSuchHold, c.args.claim) c.ok_or.result c.ok_or.ensures.value _ _ c.take.ensures c.in_ok-hold.hold c.in_ok-hold.was in
     record {
-      racked = ∥∥₁_map d.racked (λ k. released_racked d.store c.give_back.new.self (slots_of d.rack) (slots_of c.take.new.self) c.args.claim k c.in_ok-hold.hold took c.give_back.ensures d.store.racked);
+      racked = ∥∥₁_map d.racked (λ k. released_racked d.store c.give_back.new.self (slots_of d.rack) (slots_of c.take.new.self) c.args.claim k c.in_ok-hold.hold took c.give_back.ensures d.store.long);
     }

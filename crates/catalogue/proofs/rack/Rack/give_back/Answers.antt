@@ -20,7 +20,7 @@ give_back-requires g c =
     let L = v.items in
     let lt : length L < 64 = omega (arith, v.ok.0, c.in-Some.ensures.cases, c.loop-slot.invariant.few) in
     let k = before (view s) c.loop-slot.rest.items L _ _ c.in-Some.ensures.items c.in-Some-slot.is c.loop-slot.invariant.each in
-    (last_held (view s) L c.in-Some-slot.hold k s.racked lt).held
+    (last_held (view s) L c.in-Some-slot.hold k s.long lt).held
 
 pub loop-slot-preserved-in-Some-slot : goal.loop-slot-preserved-in-Some-slot
 loop-slot-preserved-in-Some-slot g c =
@@ -32,12 +32,12 @@ loop-slot-preserved-in-Some-slot g c =
     let d = c.in-Some-slot.hold in
     let lt : length L < 64 = omega (arith, v.ok.0, c.in-Some.ensures.cases, c.loop-slot.invariant.few) in
     let k = before w c.loop-slot.rest.items L _ _ c.in-Some.ensures.items c.in-Some-slot.is c.loop-slot.invariant.each in
-    let last = last_held w L d k s.racked lt in
+    let last = last_held w L d k s.long lt in
     let after : t ≡ with_pegs w (set w.pegs (length L) None) =
     taken_back g.G.Chain.table w t d last.held.0 last.held.1 c.give_back.ensures.after ∙ ap (λ p. with_pegs w (set w.pegs p None)) last.peg in
     record {
       few = omega (arith, c.in-Some.ensures.cases, c.loop-slot.invariant.few);
-      each = subst (λ (x : View). Holding x L) (sym after) (gone_some w L d k s.racked lt);
+      each = subst (λ (x : View). Holding x L) (sym after) (gone_some w L d k s.long lt);
       only = only_pegs (view c.args.store.now) w t (set w.pegs (length L) None) c.loop-slot.invariant.only after;
     }
 
@@ -56,4 +56,4 @@ returns g c =
     let s = c.loop-slot.store in
     let v = c.loop-slot.rest in
     let nil = none_left v.items (omega (arith, v.ok.0, c.in_default.ensures.cases.0)) in
-    c.loop-slot.invariant.only ∙ ap (with_pegs (view c.args.store.now)) (none_pegged (view s) s.racked (subst (λ (L : Slots). Holding (view s) L) nil c.loop-slot.invariant.each))
+    c.loop-slot.invariant.only ∙ ap (with_pegs (view c.args.store.now)) (none_pegged (view s) s.long (subst (λ (L : Slots). Holding (view s) L) nil c.loop-slot.invariant.each))
