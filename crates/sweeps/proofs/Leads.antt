@@ -1,15 +1,12 @@
 -- The test of what is reached tells what is reached. Assumes nothing.
 use Rattle.std.proofs.Common.{◌≡◌, ℕ, zero, suc, ◌≤◌, Bool, true, false, ◌&&◌, ◌||◌, eqb, ltb, ◌⊎◌, List, [], ◌∷◌, get_or, Some, None, Option, refl, ap, ◌∙◌, subst, inl, inr, arith, ltb-true, lt-ltb, eq-eqb, eqb-true}
+use Rattle.std.proofs.lemmas.Bool.{and_parts}
 use mathlib.Core.Bool.{false≢true}
 use Rattle.diagrams.specs.declared.Node.{Node}
 use Rattle.diagrams.specs.Table.{Exists, Sound, lo_of, hi_of}
 use Rattle.diagrams.proofs.Bools.{or_split, or_left, or_right}
 use Rattle.diagrams.proofs.Numbers.{parts}
 use Rattle.sweeps.specs.Reaching.{empty, Pegged, Pegs, Reached, held, low, high, leads, reached}
-
-pub and_both : (a b : Bool) → (a && b) ≡ true → (a ≡ true) × (b ≡ true)
-and_both true b h = (refl, h)
-and_both false b h = absurd (false≢true h)
 
 and_true : (a b : Bool) → a ≡ true → b ≡ true → (a && b) ≡ true
 and_true true b h k = k
@@ -37,7 +34,7 @@ module _ (N : List Node) where
       by : (eqb r n ≡ true) ⊎ ((ltb 1 r && (leads d N (lo_of N r) n || leads d N (hi_of N r) n)) ≡ true)
           → (r ≡ n) ⊎ ((2 ≤ r) × ((leads d N (lo_of N r) n ≡ true) ⊎ (leads d N (hi_of N r) n ≡ true)))
       by (inl q) = inl (eqb-true r n q)
-      by (inr q) = let w = and_both (ltb 1 r) _ q in inr (ltb-true 1 r w.0, or_split _ _ w.1)
+      by (inr q) = let w = and_parts (ltb 1 r) _ q in inr (ltb-true 1 r w.0, or_split _ _ w.1)
 
   -- one step more leads to the parts
   leads_on : (d r n m : ℕ) → 2 ≤ n → Part N n m → leads d N r n ≡ true → leads (suc d) N r m ≡ true
