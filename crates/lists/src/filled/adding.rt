@@ -25,7 +25,7 @@ impl<'a, R: Copy> Filled<'a, R> {
         ensures answer { Extends self.old self.new items.now result }
         ensures lender { self.new.room.ghost_name ≡ self.old.room.ghost_name }
     {
-        if self.room.len() - self.len < items.len() {
+        if self.left() < items.len() {
             return Err(Refusal::NoRoom);
         }
         let end = self.len + items.len();

@@ -1,9 +1,9 @@
-// Reading a list: its length, all its records, and the record at a place.
-ghost use Rattle.std.specs.Prelude.{◌≡◌, length};
+// Reading a list: its length, the room that is left, all its records, and the record at a place.
+ghost use Rattle.std.specs.Prelude.{◌≡◌, ◌+◌, length};
 ghost use Rattle.std.specs.List.{slice_get};
 ghost use Rattle.std.specs.Option.{ok_or};
 ghost use Rattle.orders.specs.declared.refusal.Refusal.TheVariants.{PastEnd};
-ghost use Rattle.lists.specs.Items.{items_of};
+ghost use Rattle.lists.specs.Items.{items_of, room_of};
 
 use super::Filled;
 use orders::Refusal;
@@ -14,6 +14,13 @@ impl<'a, R> Filled<'a, R> {
         ensures { result ≡ length (items_of self.now) }
     {
         self.len
+    }
+
+    // How many more records there is room for.
+    pub fn left(&self) -> usize
+        ensures { length (items_of self.now) + result ≡ length (room_of self.now) }
+    {
+        self.room.len() - self.len
     }
 
     // The records.

@@ -8,8 +8,8 @@ pub returns : goal.returns
 returns g c =
     let f = c.args.self.now in
     let xs = c.args.items.now in
-    let fits : f.len + length xs ≤ length f.room.now = omega (arith, f.within, c.if-self-items.false) in
     let count : length (take f.len f.room.now) ≡ f.len = length-take-le _ _ f.within in
+    let fits : f.len + length xs ≤ length f.room.now = omega (arith, count, c.left.ensures, c.if-left-items.false) in
     let placed = laid_part f.room.now c.copy_from_slice.new.self xs f.len c.copy_from_slice.ensures.after in
     record {
       answer = record {
