@@ -1,4 +1,7 @@
 // The searches, over all nodes of a table.
+ghost use Rattle.std.specs.Prelude.{◌≡◌};
+ghost use Rattle.tables.specs.Rows.{rows, found};
+
 use diagrams::{Branch, Node};
 use tables::Table;
 
@@ -13,7 +16,9 @@ pub fn linear(table: &Table, sought: Branch) -> Option<u32> {
 }
 
 // The same by hash.
-pub fn hashed(table: &Table, sought: Branch) -> Option<u32> {
+pub fn hashed(table: &Table, sought: Branch) -> Option<u32>
+    ensures { result ≡ found (rows table.now) sought.x sought.y sought.lo sought.hi }
+{
     table.find(sought)
 }
 
