@@ -81,12 +81,12 @@ pub fn check(
     ensures lent { Lent lines.old lines.new }
 {
     lines.clear();
+    let top = read_top(text, chain)?;
     let mut reader = Reader {
         pieces,
         table: Table::new(),
         lines,
     };
-    let top = read_top(text, chain)?;
     let rest = reader.read_rows(top.rest, top.nodes)?;
     finish(rest, &reader.table, top.orders)
 }
