@@ -6,6 +6,7 @@ ghost use Rattle.store.specs.Views.{view};
 ghost use Rattle.deposits.specs.Reading.{enters, Gave, reads};
 ghost use Rattle.deposits.specs.Writing.{sheet_text};
 
+use super::writing::BLANK;
 use caches::Cache;
 use lists::{Filled, NodeLine};
 use orders::Chain;
@@ -46,7 +47,7 @@ pub fn read<G: Chain, C: Cache>(store: &mut Store<G, C>, text: &[u8]) -> Result<
     ensures is { (view store.new, result) ≡ reads G.CODE (view store.old) text.now }
     ensures sheet { IfOk result (λ h. text.now ≡ sheet_text G.CODE (view store.new).nodes h.number) }
 {
-    let mut room = [NodeLine::default(); ROOM];
+    let mut room = [BLANK; ROOM];
     let mut lines = Filled::new(&mut room);
     let checked = check(text, store.plan().pieces(), G::CODE, &mut lines)?;
     let mut places = [0; ROOM];

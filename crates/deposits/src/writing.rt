@@ -9,6 +9,14 @@ use sheets::{Nodes, list_lines, write_sheet};
 use store::{Handle, Store};
 use tables::ROOM;
 
+// A line that stands in the room before any is written there. A constant: an array of it is made by filling with zeros, one of `default()` line by line.
+pub const BLANK: NodeLine = NodeLine {
+    x: 0,
+    y: 0,
+    lo: 0,
+    hi: 0,
+};
+
 // Writes the sheet of a set at the page's start and answers where it ends. The rest of the page stays; declined, nothing changes.
 pub fn write<G: Chain, C: Cache>(
     store: &Store<G, C>,
@@ -18,7 +26,7 @@ pub fn write<G: Chain, C: Cache>(
     ensures { Writes G.CODE (view store.now) set page.old page.new result }
 {
     let orders = store.count(set)?;
-    let mut room = [NodeLine::default(); ROOM];
+    let mut room = [BLANK; ROOM];
     let mut lines = Filled::new(&mut room);
     let nodes = Nodes {
         rows: store.nodes(),

@@ -3,8 +3,6 @@ ghost use Rattle.std.specs.Prelude.{◌≡◌, ◌≤◌, max, IfOk};
 
 use caches::Cache;
 use orders::{Chain, Order, Refusal, factors};
-use std::alloc::Global;
-use std::collections::HashSet;
 use std::fmt;
 use store::{Handle, Store};
 use tables::ROOM;
@@ -74,20 +72,19 @@ fn alone<G: Chain, C: Cache>(
     Ok((held?, nodes))
 }
 
-// How many different sets the nodes have without the standing order.
-fn counted_once<G: Chain, C: Cache>(
-    alloc: Global,
-    store: &mut Store<G, C>,
-    nodes: usize,
-) -> anyhow::Result<u64> {
-    let mut seen = HashSet::new(alloc);
+// How many different sets the nodes have without the standing order. Each set is marked by its number, since the program asks for no memory.
+fn counted_once<G: Chain, C: Cache>(store: &mut Store<G, C>, nodes: usize) -> Result<u64, Refusal> {
+    let mut seen = [false; ROOM + 2];
     let season = store.season();
     let standing = store.standing_set();
     for number in 2..nodes.min(ROOM) as u32 + 2 {
         let rest = store.without(Handle { season, number }, standing)?;
-        seen.insert(rest.set.number)?;
+        let mark = seen
+            .get_mut(rest.set.number as usize)
+            .ok_or(Refusal::NoSuchNumber)?;
+        *mark = true;
     }
-    Ok(seen.len() as u64)
+    Ok(seen.iter().filter(|mark| **mark).count() as u64)
 }
 
 // How many factors an order has: a row says of x that there is none by x itself.
@@ -110,11 +107,7 @@ fn factor_total<G: Chain, C: Cache>(store: &Store<G, C>, set: Handle) -> Result<
 }
 
 // Each set followed by the exchanges, until nothing new comes.
-pub fn grown<G: Chain, C: Cache>(
-    alloc: Global,
-    store: &mut Store<G, C>,
-    pieces: u8,
-) -> anyhow::Result<Growth>
+pub fn grown<G: Chain, C: Cache>(store: &mut Store<G, C>, pieces: u8) -> Result<Growth, Refusal>
     ensures steps { IfOk result (λ g. g.steps ≤ LONGEST) }
     ensures peak_nodes { IfOk result (λ g. g.last.nodes ≤ g.peak.nodes) }
     ensures peak_once { IfOk result (λ g. g.last.once ≤ g.peak.once) }
@@ -130,7 +123,7 @@ pub fn grown<G: Chain, C: Cache>(
             break;
         }
         let (kept, nodes) = alone(store, next.set)?;
-        let once = counted_once(alloc, store, nodes)?;
+        let once = counted_once(store, nodes)?;
         last = Size {
             nodes: nodes as u64,
             once,

@@ -15,7 +15,7 @@ use tables::ROOM;
 fn tell(rt: &HostRuntime, printed: Printed) -> anyhow::Result<()> {
     let plan = Plan::new(u64::from(printed.pieces), ROOM as u64, 0, 0)?;
     let mut store = Store::begin(plan, Swap, Slots::new());
-    let found = grown(rt.alloc(), &mut store, printed.pieces)?;
+    let found = grown(&mut store, printed.pieces)?;
     let line = Line { found, printed };
     println!(rt; "{line}")?;
     Ok(())

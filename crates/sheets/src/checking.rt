@@ -81,12 +81,13 @@ pub fn check(
     ensures lent { Lent lines.old lines.new }
 {
     lines.clear();
+    let top = read_top(text, chain)?;
+    // A literal: made by a function, the reader's list at the end is not tied to the caller's.
     let mut reader = Reader {
         pieces,
         table: Table::new(),
         lines,
     };
-    let top = read_top(text, chain)?;
     let rest = reader.read_rows(top.rest, top.nodes)?;
     finish(rest, &reader.table, top.orders)
 }

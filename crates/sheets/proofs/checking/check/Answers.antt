@@ -14,12 +14,6 @@ invariant_of-reader c = record {
   room = omega (arith, ap length c.clear.ensures.room, c.requires.room);
 }
 
-pub invariant_of-reader-2 : goal.invariant_of-reader-2
-invariant_of-reader-2 c = record {
-  tabled = c.new.ensures ∙ sym (ap tabled c.clear.ensures.items ∙ tabled_none);
-  room = omega (arith, ap length c.clear.ensures.room, c.requires.room);
-}
-
 pub returns-in_err-top-clause-is : goal.returns-in_err-top-clause-is
 returns-in_err-top-clause-is c =
     let f = c.in_err-top.field-0.0 in
