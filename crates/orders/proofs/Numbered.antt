@@ -16,7 +16,7 @@ Numbered row n rest r =
     × (range_inclusive_exhausted r ≡ false → range_inclusive_start r ≡ n + 1)
 
 -- a range that still gives a number is not exhausted
-pub still_gives : (e : Bool) (a b m : ℕ) → m + 1 ≡ range_inclusive_len (λ i k. k - i) a b e → e ≡ false
+still_gives : (e : Bool) (a b m : ℕ) → m + 1 ≡ range_inclusive_len (λ i k. k - i) a b e → e ≡ false
 still_gives true a b m h = absurd (omega (arith, h))
 still_gives false a b m h = refl
 

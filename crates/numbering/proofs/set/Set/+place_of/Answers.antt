@@ -1,6 +1,5 @@
-use Rattle.std.proofs.Common.{ℕ, ◌≤◌, ◌∙◌, sym, ap, eqb-true, eq-eqb, arith}
+use Rattle.std.proofs.Common.{◌≡◌, ℕ, ◌≤◌, ◌∙◌, subst, Decides, arith}
 use Rattle.orders.specs.declared.order.Order.{Order}
-use Rattle.orders.specs.Orders.{code_tells}
 use Rattle.numbering.proofs.Walks.{parts_below, place_none, place_standing, place_low, place_high, place_gone, place_fits}
 use Rattle.numbering.proofs.set.Set.+place_of.Given as given
 use Rattle.numbering.proofs.set.Set.+place_of.Goals as goal
@@ -19,7 +18,7 @@ returns-then-self-eq0 g t c =
 pub returns-then-self-eq1 : goal.returns-then-self-eq1
 returns-then-self-eq1 g t c =
     let q = place_standing g.G.Chain.table g.met.G.Chain.laws c.args.self c.args.order c.eq.result c.if-self-eq1.true
-    (λ e. code_tells _ _ (eqb-true _ _ (sym c.eq.ensures ∙ e)) ∙ c.standing.ensures, λ e. c.eq.ensures ∙ eq-eqb _ _ (ap (λ (o : Order). o.code) (e ∙ sym c.standing.ensures))) in
+    (subst (λ (o : Order). Decides c.eq.result (c.args.order ≡ o)) c.standing.ensures c.eq.ensures.order) in
     record { is = rw c.then_some.ensures q.0; placed = rw c.then_some.ensures q.1 }
 
 pub place_of-requires : goal.place_of-requires
