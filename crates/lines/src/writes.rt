@@ -1,15 +1,11 @@
-// Lines put on a page, which is a list of bytes. What does not fit is refused, and the page stays as it was.
+// Lines put on a page: behind the bytes of a list, or from a place on. What does not fit is refused, and the page stays as it was.
 ghost use Rattle.std.specs.Prelude.{◌≡◌, ◌+◌, ◌*◌, ◌<◌, ◌≤◌, [], ◌∷◌, ◌++◌, length, decimal, MatchResult};
 ghost use Rattle.lists.specs.Items.{items_of, room_of, Extended};
 ghost use Rattle.lines.specs.Format.{written, line};
-ghost use Rattle.lines.specs.Pages.{Laid};
+ghost use Rattle.lines.specs.Pages.{Put, Laid};
 
-use crate::numbers::MOST;
 use lists::Filled;
 use orders::Refusal;
-
-// How many bytes the longest line has: at most 20 digits and one byte behind them for each number.
-const LONGEST: usize = MOST * 21;
 
 // How many digits the number has.
 fn digit_len(n: u64) -> usize
@@ -58,23 +54,60 @@ fn put_numbers(page: &mut Filled<u8>, values: &[u64]) -> Result<(), Refusal>
     Ok(())
 }
 
-// Writes the line of at most 16 numbers.
-pub fn put_line(page: &mut Filled<u8>, values: &[u64]) -> Result<(), Refusal>
+// Writes the numbers of a line, and its end.
+fn write_line(page: &mut Filled<u8>, values: &[u64]) -> Result<(), Refusal>
+    ensures answer { MatchResult result (λ _. Extended page.old page.new (line values.now)) (λ _. length (room_of page.old) < length (items_of page.old) + length (line values.now)) }
+    ensures lender { page.new.room.ghost_name ≡ page.old.room.ghost_name }
+{
+    put_numbers(page, values)?;
+    page.add(b'\n')?;
+    Ok(())
+}
+
+// Writes the line of at most 16 numbers behind the list's bytes.
+pub fn add_line(page: &mut Filled<u8>, values: &[u64]) -> Result<(), Refusal>
     requires { length values.now ≤ 16 }
     ensures answer { Laid page.old page.new (line values.now) result }
     ensures lender { page.new.room.ghost_name ≡ page.old.room.ghost_name }
 {
-    let mut room = [0; LONGEST + 1];
-    let mut line = Filled::new(&mut room);
-    put_numbers(&mut line, values)?;
-    line.add(b'\n')?;
-    put_bytes(page, line.items())
+    if page.left() < line_len(values) {
+        return Err(Refusal::ShortPage);
+    }
+    write_line(page, values)
 }
 
-// Writes bytes as they are.
-pub fn put_bytes(page: &mut Filled<u8>, bytes: &[u8]) -> Result<(), Refusal>
+// Writes bytes as they are behind the list's bytes.
+pub fn add_bytes(page: &mut Filled<u8>, bytes: &[u8]) -> Result<(), Refusal>
     ensures answer { Laid page.old page.new bytes.now result }
     ensures lender { page.new.room.ghost_name ≡ page.old.room.ghost_name }
 {
     page.extend(bytes).map_err(|_| Refusal::ShortPage)
+}
+
+// Writes the line of at most 16 numbers from `at` on, and answers where it ends.
+pub fn put_line(page: &mut [u8], at: usize, values: &[u64]) -> Result<usize, Refusal>
+    requires { length values.now ≤ 16 }
+    ensures { Put page.old page.new at (line values.now) result }
+{
+    let len = line_len(values);
+    if page.len() < len || page.len() - len < at {
+        return Err(Refusal::ShortPage);
+    }
+    let (_, behind) = page.split_at_mut(at);
+    let mut list = Filled::new(behind);
+    write_line(&mut list, values)?;
+    Ok(at + list.len())
+}
+
+// Writes bytes as they are from `at` on, and answers where they end.
+pub fn put_bytes(page: &mut [u8], at: usize, bytes: &[u8]) -> Result<usize, Refusal>
+    ensures { Put page.old page.new at bytes.now result }
+{
+    if page.len() < bytes.len() || page.len() - bytes.len() < at {
+        return Err(Refusal::ShortPage);
+    }
+    let (_, behind) = page.split_at_mut(at);
+    let mut list = Filled::new(behind);
+    add_bytes(&mut list, bytes)?;
+    Ok(at + list.len())
 }
