@@ -5,8 +5,8 @@ use Rattle.std.proofs.lemmas.List.{length-append, length_push, take_more, length
 use Rattle.std.specs.Result.{IsErr}
 use Rattle.std.proofs.lemmas.Bool.{false≢true}
 use Rattle.lists.specs.declared.filled.Filled.{Filled}
-use Rattle.lists.specs.Items.{items_of, room_of, laid, Extended}
-use Rattle.lists.proofs.Places.{extended_length}
+use Rattle.lists.specs.Items.{items_of, room_of, laid, Added, Extended}
+use Rattle.lists.proofs.Places.{extended_one, extended_length}
 use Rattle.lines.specs.Format.{more, written, line}
 use Rattle.lines.specs.Pages.{Stands}
 use Rattle.orders.specs.declared.refusal.Refusal.{Refusal}
@@ -93,6 +93,11 @@ more_few (n ∷ ns) h = omega (arith, more_few ns (λ i. h (suc i)), length_20 n
 -- a line of at most 16 numbers fits in 337 bytes
 pub line_few : (ns : List ℕ) → ((i : ℕ) → get_or ns i 0 < 2 ^ 64) → length ns ≤ 16 → length (line ns) ≤ 337
 line_few ns h few = omega (arith, more_few ns h, line_long ns)
+
+-- a byte that there is room for is added
+pub added_one : (a b : Filled ℕ) (x : ℕ) (r : Result ℕ Refusal) → length (items_of a) < length (room_of a) → Added a b x r → Extended a b (x ∷ [])
+added_one a b x (Ok place) free h = extended_one a b x place h
+added_one a b x (Err why) free h = absurd (omega (arith, h.full))
 
 -- a list over what is behind a place of the page, from none to all of its bytes
 pub stands_behind : (p q : List ℕ) (at : ℕ) (a e : Filled ℕ) (bytes : List ℕ) (end : ℕ) → at ≤ length p → items_of a ≡ [] → room_of a ≡ drop at p → Extended a e bytes →

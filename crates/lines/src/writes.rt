@@ -28,40 +28,50 @@ pub fn line_len(values: &[u64]) -> usize
     len.max(1)
 }
 
-// Writes the digits of a number.
-fn put_number(page: &mut Filled<u8>, n: u64) -> Result<(), Refusal>
-    ensures answer { MatchResult result (λ _. Extended page.old page.new (decimal n)) (λ _. length (room_of page.old) < length (items_of page.old) + length (decimal n)) }
+// Writes one byte, for which there is room.
+fn put_byte(page: &mut Filled<u8>, b: u8)
+    requires { length (items_of page.old) < length (room_of page.old) }
+    ensures answer { Extended page.old page.new (b ∷ []) }
     ensures lender { page.new.room.ghost_name ≡ page.old.room.ghost_name }
 {
-    if n >= 10 {
-        put_number(page, n / 10)?;
-    }
-    page.add(b'0' + (n % 10) as u8)?;
-    Ok(())
+    let _ = page.add(b);
 }
 
-// Writes the numbers of a line, with a blank before each but the first.
-fn put_numbers(page: &mut Filled<u8>, values: &[u64]) -> Result<(), Refusal>
-    ensures answer { MatchResult result (λ _. Extended page.old page.new (written values.now)) (λ _. length (room_of page.old) < length (items_of page.old) + length (written values.now)) }
+// Writes the digits of a number, for which there is room.
+fn put_number(page: &mut Filled<u8>, n: u64)
+    requires { length (items_of page.old) + length (decimal n) ≤ length (room_of page.old) }
+    ensures answer { Extended page.old page.new (decimal n) }
+    ensures lender { page.new.room.ghost_name ≡ page.old.room.ghost_name }
+{
+    let last = b'0' + (n % 10) as u8;
+    if n >= 10 {
+        put_number(page, n / 10);
+    }
+    put_byte(page, last);
+}
+
+// Writes the numbers of a line, for which there is room, with a blank before each but the first.
+fn put_numbers(page: &mut Filled<u8>, values: &[u64])
+    requires { length (items_of page.old) + length (written values.now) ≤ length (room_of page.old) }
+    ensures answer { Extended page.old page.new (written values.now) }
     ensures lender { page.new.room.ghost_name ≡ page.old.room.ghost_name }
 {
     for (i, value) in values.iter().enumerate() {
         if i > 0 {
-            page.add(b' ')?;
+            put_byte(page, b' ');
         }
-        put_number(page, *value)?;
+        put_number(page, *value);
     }
-    Ok(())
 }
 
-// Writes the numbers of a line, and its end.
-fn write_line(page: &mut Filled<u8>, values: &[u64]) -> Result<(), Refusal>
-    ensures answer { MatchResult result (λ _. Extended page.old page.new (line values.now)) (λ _. length (room_of page.old) < length (items_of page.old) + length (line values.now)) }
+// Writes the numbers of a line and its end, for which there is room.
+fn write_line(page: &mut Filled<u8>, values: &[u64])
+    requires { length (items_of page.old) + length (line values.now) ≤ length (room_of page.old) }
+    ensures answer { Extended page.old page.new (line values.now) }
     ensures lender { page.new.room.ghost_name ≡ page.old.room.ghost_name }
 {
-    put_numbers(page, values)?;
-    page.add(b'\n')?;
-    Ok(())
+    put_numbers(page, values);
+    put_byte(page, b'\n');
 }
 
 // Writes the line of at most 16 numbers behind the list's bytes.
@@ -73,7 +83,8 @@ pub fn add_line(page: &mut Filled<u8>, values: &[u64]) -> Result<(), Refusal>
     if page.left() < line_len(values) {
         return Err(Refusal::ShortPage);
     }
-    write_line(page, values)
+    write_line(page, values);
+    Ok(())
 }
 
 // Writes bytes as they are behind the list's bytes.
@@ -95,7 +106,7 @@ pub fn put_line(page: &mut [u8], at: usize, values: &[u64]) -> Result<usize, Ref
     }
     let (_, behind) = page.split_at_mut(at);
     let mut list = Filled::new(behind);
-    write_line(&mut list, values)?;
+    write_line(&mut list, values);
     Ok(at + list.len())
 }
 
