@@ -75,6 +75,7 @@ fn write_line(page: &mut Filled<u8>, values: &[u64])
 }
 
 // Writes the line of at most 16 numbers behind the list's bytes.
+#[inline]
 pub fn add_line(page: &mut Filled<u8>, values: &[u64]) -> Result<(), Refusal>
     requires { length values.now ≤ 16 }
     ensures answer { Laid page.old page.new (line values.now) result }
