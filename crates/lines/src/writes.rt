@@ -1,5 +1,5 @@
 // Lines put on a page: behind the bytes of a list, or from a place on. What does not fit is refused, and the page stays as it was.
-ghost use Rattle.std.specs.Prelude.{◌≡◌, ◌+◌, ◌*◌, ◌<◌, ◌≤◌, [], ◌∷◌, ◌++◌, length, decimal, MatchResult};
+ghost use Rattle.std.specs.Prelude.{◌≡◌, ◌+◌, ◌*◌, ◌<◌, ◌≤◌, [], ◌∷◌, length, decimal};
 ghost use Rattle.lists.specs.Items.{items_of, room_of, Extended};
 ghost use Rattle.lines.specs.Format.{written, line};
 ghost use Rattle.lines.specs.Pages.{Put, Laid};
