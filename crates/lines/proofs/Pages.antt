@@ -1,10 +1,14 @@
 -- What is written on a page. Assumes nothing.
-use Rattle.std.proofs.Common.{◌≡◌, ℕ, zero, suc, ◌+◌, ◌*◌, ◌/◌, ◌%◌, ◌^◌, ◌<◌, ◌≤◌, List, [], ◌∷◌, ◌++◌, length, get_or, take, decimal, Ok, Err, Result, MatchResult, ◌⊎◌, inl, inr, subst, sym, refl, ap, ◌∙◌, append_assoc, append-nil, arith}
+use Rattle.std.proofs.Common.{◌≡◌, ℕ, zero, suc, ◌+◌, ◌/◌, ◌%◌, ◌^◌, ◌<◌, ◌≤◌, List, [], ◌∷◌, ◌++◌, length, get_or, take, drop, decimal, Ok, Err, Result, MatchResult, ◌⊎◌, inl, inr, subst, sym, refl, ap, ◌∙◌, append_assoc, append-nil, arith}
 use Rattle.std.proofs.lemmas.Fmt.{decimal_digit, decimal_step, length-decimal-le}
-use Rattle.std.proofs.lemmas.List.{length-append, length_push, take_more, length-take-le}
+use Rattle.std.proofs.lemmas.List.{length-append, length_push, take_more, length-take-le, drop-drop, length-drop}
 use Rattle.std.specs.Result.{IsErr}
 use Rattle.std.proofs.lemmas.Bool.{false≢true}
+use Rattle.lists.specs.declared.filled.Filled.{Filled}
+use Rattle.lists.specs.Items.{items_of, room_of, laid, Added, Extended}
+use Rattle.lists.proofs.Places.{extended_one, extended_length}
 use Rattle.lines.specs.Format.{more, written, line}
+use Rattle.lines.specs.Pages.{Stands}
 use Rattle.orders.specs.declared.refusal.Refusal.{Refusal}
 
 -- what holds where a call failed
@@ -82,10 +86,20 @@ written_up_to ns i h ls lead =
     let all = ap length (written_take ns i h ls lead) in
     omega (arith, all, written_front ns (i + 1), length-append (written (take i ns)) (ls ++ decimal (get_or ns i 0)), length-append ls (decimal (get_or ns i 0)))
 
-more_few : (ns : List ℕ) → ((i : ℕ) → get_or ns i 0 < 2 ^ 64) → length (more ns) ≤ 21 * length ns
-more_few [] h = omega arith
-more_few (n ∷ ns) h = omega (arith, more_few ns (λ i. h (suc i)), length_20 n (h 0), length-append (decimal n) (more ns))
+-- a byte that there is room for is added
+pub added_one : (a b : Filled ℕ) (x : ℕ) (r : Result ℕ Refusal) → length (items_of a) < length (room_of a) → Added a b x r → Extended a b (x ∷ [])
+added_one a b x (Ok place) free h = extended_one a b x place h
+added_one a b x (Err why) free h = absurd (omega (arith, h.full))
 
--- a line of at most 16 numbers fits in 337 bytes
-pub line_few : (ns : List ℕ) → ((i : ℕ) → get_or ns i 0 < 2 ^ 64) → length ns ≤ 16 → length (line ns) ≤ 337
-line_few ns h few = omega (arith, more_few ns h, line_long ns)
+-- a list over what is behind a place of the page, from none to all of its bytes
+pub stands_behind : (p q : List ℕ) (at : ℕ) (a e : Filled ℕ) (bytes : List ℕ) (end : ℕ) → at ≤ length p → items_of a ≡ [] → room_of a ≡ drop at p → Extended a e bytes →
+    end ≡ at + length (items_of e) → q ≡ take at p ++ room_of e → Stands p q at bytes end
+stands_behind p q at a e bytes end within none behind all long is =
+    let start : length (items_of a) ≡ 0 = ap length none in
+    let size : 0 + length bytes ≡ length bytes = omega arith in
+    record {
+      room = omega (arith, start, all.free, ap length behind, length-drop at p);
+      ends = omega (arith, start, long, extended_length a e bytes all);
+      page = is ∙ ap (λ l. take at p ++ l)
+          (all.room ∙ (λ i. laid (behind i) (start i) bytes) ∙ ap (λ n. bytes ++ drop n (drop at p)) size ∙ ap (λ l. bytes ++ l) (drop-drop (length bytes) at p));
+    }

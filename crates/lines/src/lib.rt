@@ -10,4 +10,4 @@ mod writes;
 pub use numbers::Fields;
 pub use reads::{fields, first_line};
 pub use rows::order_of;
-pub use writes::{line_len, put_bytes, put_line};
+pub use writes::{add_bytes, add_line, line_len, put_bytes, put_line};

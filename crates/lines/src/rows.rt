@@ -5,6 +5,7 @@ ghost use Rattle.orders.specs.Entries.{Writes, Refused};
 
 use super::numbers::Fields;
 use orders::{Order, Refusal};
+use std::array::from_fn;
 
 // A number as a place; a number above 16 is none, and stands as 0: 0 is no place either, so `from_row` refuses both alike.
 fn place_of(value: u64) -> u8
@@ -20,5 +21,5 @@ fn place_of(value: u64) -> u8
 pub fn order_of(row: Fields) -> Result<Order, Refusal>
     ensures { MatchResult result (Writes (held row) (length (held row))) (Refused (held row) (length (held row))) }
 {
-    Order::from_row(row.values.map(place_of), row.count as u8)
+    Order::from_row(from_fn(|j| place_of(row.values[j])), row.count as u8)
 }

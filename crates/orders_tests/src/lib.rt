@@ -3,7 +3,7 @@
 
 #[cfg(test)]
 mod examples {
-    use lines::{fields, first_line, order_of, put_bytes, put_line};
+    use lines::{add_bytes, add_line, fields, first_line, order_of};
     use lists::Filled;
     use orders::{Chain, Order, Refusal, Rotation, Swap, factors, product};
     use std::test::Fail;
@@ -132,10 +132,10 @@ mod examples {
     fn a_line_is_put_on_a_page_where_it_fits(rt: HostRuntime) {
         let mut room = [0u8; 8];
         let mut page = Filled::new(&mut room);
-        assert!(rt; put_line(&mut page, &[10, 2]) == Ok(()));
-        assert!(rt; put_line(&mut page, &[7, 8]) == Err(Refusal::ShortPage));
+        assert!(rt; add_line(&mut page, &[10, 2]) == Ok(()));
+        assert!(rt; add_line(&mut page, &[7, 8]) == Err(Refusal::ShortPage));
         assert!(rt; page.len() == 5);
-        assert!(rt; put_bytes(&mut page, b"abc") == Ok(()));
+        assert!(rt; add_bytes(&mut page, b"abc") == Ok(()));
         assert!(rt; page.items() == b"10 2\nabc".as_slice());
     }
 

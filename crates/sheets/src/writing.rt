@@ -4,7 +4,7 @@ ghost use Rattle.lists.specs.Items.{items_of, room_of, Extended};
 ghost use Rattle.lines.specs.Pages.{Put};
 ghost use Rattle.sheets.specs.Format.{node_lines, sheet_bytes};
 
-use lines::{line_len, put_bytes, put_line};
+use lines::{add_bytes, add_line, line_len};
 use lists::{Filled, NodeLine};
 use orders::Refusal;
 
@@ -34,7 +34,7 @@ fn put_rows(page: &mut Filled<u8>, lines: &[NodeLine]) -> Result<(), Refusal>
     ensures lender { page.new.room.ghost_name ≡ page.old.room.ghost_name }
 {
     for line in lines {
-        put_line(page, &<[u64; 4]>::from(*line))?;
+        add_line(page, &<[u64; 4]>::from(*line))?;
     }
     Ok(())
 }
@@ -55,9 +55,9 @@ pub fn write_sheet(
         return Err(Refusal::ShortPage);
     }
     let mut page = Filled::new(page);
-    put_bytes(&mut page, HEAD)?;
-    put_line(&mut page, &counts)?;
-    put_bytes(&mut page, NODE_NAMES)?;
+    add_bytes(&mut page, HEAD)?;
+    add_line(&mut page, &counts)?;
+    add_bytes(&mut page, NODE_NAMES)?;
     put_rows(&mut page, lines)?;
     Ok(page.len())
 }

@@ -8,14 +8,14 @@ use Rattle.sheets.specs.Format.{node_values}
 use Rattle.sheets.proofs.Sheets.{lines_take, lines_up_to}
 use Rattle.sheets.proofs.writing.put_rows.Goals as goal
 
-pub returns-in_err-put_line-clause-answer : goal.returns-in_err-put_line-clause-answer
-returns-in_err-put_line-clause-answer c =
+pub returns-in_err-add_line-clause-answer : goal.returns-in_err-add_line-clause-answer
+returns-in_err-add_line-clause-answer c =
     let inv = c.loop-line.invariant.0 in
     let here : c.from.result ≡ node_values (get_or c.args.lines.now c.loop-line.line-index blank) = c.from.ensures in
     err_only _ _ c.from_residual.result c.from_residual.ensures.0
     (omega (
       arith,
-      c.in_err-put_line.ensures.answer.1,
+      c.in_err-add_line.ensures.answer.1,
       ap (λ vs. length (line vs)) here,
       extended_room _ _ _ inv,
       extended_length _ _ _ inv,
@@ -25,8 +25,8 @@ returns-in_err-put_line-clause-answer c =
 pub loop-line-preserved : goal.loop-line-preserved
 loop-line-preserved c =
     let here : c.from.result ≡ node_values (get_or c.args.lines.now c.loop-line.line-index blank) = c.from.ensures in (
-      subst (λ l. Extended c.args.page.now c.put_line.new.page l) (sym (lines_take c.args.lines.now c.loop-line.line-index c.loop-line-test.true))
-          (extended_then c.args.page.now c.loop-line.page c.put_line.new.page _ _ c.loop-line.invariant.0
-          (subst (λ vs. Extended c.loop-line.page c.put_line.new.page (line vs)) here c.in_ok-put_line.ensures.answer)),
-      c.in_ok-put_line.ensures.lender ∙ c.loop-line.invariant.1,
+      subst (λ l. Extended c.args.page.now c.add_line.new.page l) (sym (lines_take c.args.lines.now c.loop-line.line-index c.loop-line-test.true))
+          (extended_then c.args.page.now c.loop-line.page c.add_line.new.page _ _ c.loop-line.invariant.0
+          (subst (λ vs. Extended c.loop-line.page c.add_line.new.page (line vs)) here c.in_ok-add_line.ensures.answer)),
+      c.in_ok-add_line.ensures.lender ∙ c.loop-line.invariant.1,
     )

@@ -23,10 +23,10 @@ all : (c : After-len) → Extended c.new-page.result c.put_rows.new.page (sheet_
 unfolding sheet_bytes
 all c =
     let ls = c.args.lines.now in
-    let second = subst (λ k. Extended c.put_bytes.new.page c.put_line.new.page (line (k ∷ length ls ∷ c.args.orders ∷ []))) c.from.ensures c.in_ok-put_line.ensures.answer in
-    extended_then _ _ _ head _ c.in_ok-put_bytes.ensures.answer
+    let second = subst (λ k. Extended c.add_bytes.new.page c.add_line.new.page (line (k ∷ length ls ∷ c.args.orders ∷ []))) c.from.ensures c.in_ok-add_line.ensures.answer in
+    extended_then _ _ _ head _ c.in_ok-add_bytes.ensures.answer
     (extended_then _ _ _ _ _ second
-    (extended_then _ _ _ node_names (node_lines ls) c.in_ok-put_bytes-2.ensures.answer c.in_ok-put_rows.ensures.answer))
+    (extended_then _ _ _ node_names (node_lines ls) c.in_ok-add_bytes-2.ensures.answer c.in_ok-put_rows.ensures.answer))
 
 pub returns : goal.returns
 returns c =
