@@ -20,12 +20,13 @@ const BUCKETS: usize = 4096;
 // The nodes are the first `len`, and the node at `i` has the number `i + 2`. `heads` has for each bucket the number of
 // its last node, if any, and `next` for each node the number of the last before it in its bucket, if any. The nodes stand by themselves, and not
 // each with its `next`, since they are lent as a slice; and in arrays, since a store asks for no memory.
+// The index keeps a number, which is at most 2,047, as a `u16`: an optional one is then as small as a `u32`.
 #[derive(Drop)]
 pub struct Table {
     nodes: [Node; ROOM],
     len: usize,
-    heads: [Option<u32>; BUCKETS],
-    next: [Option<u32>; ROOM],
+    heads: [Option<u16>; BUCKETS],
+    next: [Option<u16>; ROOM],
     ghost long: { length nodes ≡ 2046 },
     ghost wide: { length heads ≡ 4096 },
     ghost deep: { length next ≡ 2046 },

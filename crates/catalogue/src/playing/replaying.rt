@@ -1,5 +1,5 @@
 // The requests, one after another.
-ghost use Rattle.std.specs.Prelude.{IfOk};
+ghost use Rattle.std.specs.Prelude.{◌≡◌, IfOk};
 ghost use Rattle.catalogue.specs.Agreement.{Agreement};
 ghost use Rattle.catalogue.specs.Replays.{Played, Replayed, Alike};
 
@@ -12,10 +12,11 @@ use orders::Chain;
 use std::alloc::{AllocError, Global};
 use store::{Plan, Store};
 
-impl<G: Chain, C: Cache> Desk<G, C> {
+impl<G: Chain, C: Cache> Desk<'_, G, C> {
     // Makes the requests in turn. Where memory runs out the store and the rack are still in order.
     fn serve_all(&mut self, heap: Global, requests: &[Request]) -> Result<Vec<Answer>, AllocError>
-        ensures { IfOk result (λ answers. Played self.old.store requests.now self.new.store answers.items) }
+        ensures lender { self.new.store.ghost_name ≡ self.old.store.ghost_name }
+        ensures is { IfOk result (λ answers. Played self.old.store.now requests.now self.new.store.now answers.items) }
     {
         let mut answers = Vec::new(heap);
         for request in requests {
@@ -38,13 +39,12 @@ pub fn replay<G: Chain + Drop, C: Cache + Drop, D: Cache>(
     ensures alike { IfOk result (Alike D.Cache plan requests.now) }
     ensures agreement { Agreement G C D G.Chain C.Cache D.Cache }
 {
-    let mut desk = Desk {
-        rack: Rack::new(heap)?,
-        store: Store::begin(plan, chain, cache),
-    };
+    let rack = Rack::new(heap)?;
+    let mut store = Store::begin(plan, chain, cache);
+    let mut desk = Desk::new(&mut store, rack);
     let served = desk.serve_all(heap, requests);
-    let Desk { mut store, rack } = desk;
-    rack.give_back(&mut store);
+    let Desk { store: lent, rack } = desk;
+    rack.give_back(lent);
     Ok(Transcript {
         store,
         answers: served?,

@@ -15,7 +15,7 @@ impl Table {
         while let Some(number) = next {
             let i = number as usize - 2;
             if self.nodes[i].branch() == branch {
-                return Some(number);
+                return Some(u32::from(number));
             }
             next = self.next[i];
         }

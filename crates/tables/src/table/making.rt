@@ -18,13 +18,13 @@ impl Table {
         ensures number { result ≡ suc (suc (length (rows self.old))) }
     {
         let i = self.len;
-        let number = i as u32 + 2;
+        let number = i as u16 + 2;
         let b = bucket(node.branch());
         self.nodes[i] = node;
         self.next[i] = self.heads[b];
         self.heads[b] = Some(number);
         self.len = i + 1;
-        number
+        u32::from(number)
     }
 
     // The number of the node with this branch, which is made if there is none and there are less than `capacity`.

@@ -12,21 +12,21 @@ use Rattle.catalogue.specs.Requests.{set_call, names_asked}
 use Rattle.catalogue.proofs.Makes.{names_no, declined_does, after_sets}
 use Rattle.catalogue.proofs.desk.Desk.work.Goals as goal
 
-pub returns-in_err-call : goal.returns-in_err-call
-returns-in_err-call g c =
-    let s = c.args.self.now.store in
+pub returns-in_err-call-clause-is : goal.returns-in_err-call-clause-is
+returns-in_err-call-clause-is g c =
+    let s = c.args.self.now.store.now in
     let e = c.in_err-call.field-0.0 in
     let no = asked_no (names_asked (view s) c.args.asked) (set_call c.args.asked) e c.in_err-call.ensures in
     let p = err_from_is_err_and c.from_residual.result c.from_residual.ensures.1 in
     rw (p.1, p.2) (declined_does s (set_call c.args.asked) e (names_no (view s) c.args.asked e no))
 
-pub invariant_of-self : goal.invariant_of-self
-invariant_of-self g c =
+pub invariant_of-self-2 : goal.invariant_of-self-2
+invariant_of-self-2 g c =
     let d = c.args.self.now in
-    record { racked = ∥∥₁_map d.racked (λ k. after_sets g.G.Chain.table (view d.store) (view c.work.new.self) _ k c.in_ok-call.call c.work.ensures.does.after) }
+    record { racked = ∥∥₁_map d.racked (λ k. after_sets g.G.Chain.table (view d.store.now) (view c.work.new.self) _ k c.in_ok-call.call c.work.ensures.does.after) }
 
-pub returns : goal.returns
-returns g c =
-    let s = c.args.self.now.store in
+pub returns-clause-is : goal.returns-clause-is
+returns-clause-is g c =
+    let s = c.args.self.now.store.now in
     let yes = accepted (names_asked (view s) c.args.asked) (set_call c.args.asked) c.in_ok-call.call c.in_ok-call.ensures in
     subst (λ (k : SetCall Handle ℕ). Does s (sets k) c.work.new.self (found_reply c.work.result) (found_entries c.work.result)) yes.1 c.work.ensures.does

@@ -53,7 +53,7 @@ pub bounds-self-i : goal.bounds-self-i
 bounds-self-i c = within _ _ _ _ _ _ _ c.loop-next.invariant c.in-Some.is
 
 pub returns-then-eq : goal.returns-then-eq
-returns-then-eq c = hit _ _ _ _ _ _ _ c.loop-next.invariant c.in-Some.is (rw c.branch-self.ensures at c.if-eq.ensures)
+returns-then-eq c = ap (λ (n : ℕ). Some n) c.from.ensures ∙ hit _ _ _ _ _ _ _ c.loop-next.invariant c.in-Some.is (rw c.branch-self.ensures at c.if-eq.ensures)
 
 pub bounds-self-i-in-Some : goal.bounds-self-i-in-Some
 bounds-self-i-in-Some c = within _ _ _ _ _ _ _ c.loop-next.invariant c.in-Some.is
