@@ -22,6 +22,7 @@ enum Kind {
 pub fn outright(task: Task) -> Option<u32>
     ensures { result ≡ outright_of task }
 {
+    // Numbers are bound and tested: a pattern such as `Task::Join(0, b)` is not covered for an enum with an order in it.
     match task {
         Task::Join(a, b) => {
             if a == 0 {

@@ -3,7 +3,7 @@
 
 #[cfg(test)]
 mod examples {
-    use lines::{add_bytes, add_line, fields, first_line, order_of};
+    use lines::{add_bytes, add_line, fields, first_line, order_of, put_bytes, put_line};
     use lists::Filled;
     use orders::{Chain, Order, Refusal, Rotation, Swap, factors, product};
     use std::test::Fail;
@@ -126,6 +126,19 @@ mod examples {
         assert!(rt; line.len() == 3 && rest.len() == 2);
         assert!(rt; first_line(b"1 2").is_none());
         Ok(())
+    }
+
+    #[test]
+    fn a_line_is_put_on_a_page_from_a_place_on(rt: HostRuntime) {
+        let mut page = *b"abcdefgh";
+        assert!(rt; put_line(&mut page, 2, &[10, 2]) == Ok(7));
+        assert!(rt; page.as_slice() == b"ab10 2\nh".as_slice());
+        assert!(rt; put_line(&mut page, 4, &[10, 2]) == Err(Refusal::ShortPage));
+        assert!(rt; put_line(&mut page, 9, &[]) == Err(Refusal::ShortPage));
+        assert!(rt; put_bytes(&mut page, 8, b"") == Ok(8));
+        assert!(rt; put_bytes(&mut page, 9, b"") == Err(Refusal::ShortPage));
+        assert!(rt; put_bytes(&mut page, 0, b"xy") == Ok(2));
+        assert!(rt; page.as_slice() == b"xy10 2\nh".as_slice());
     }
 
     #[test]
