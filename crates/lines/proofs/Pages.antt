@@ -1,5 +1,5 @@
 -- What is written on a page. Assumes nothing.
-use Rattle.std.proofs.Common.{◌≡◌, ℕ, zero, suc, ◌+◌, ◌/◌, ◌%◌, ◌^◌, ◌<◌, ◌≤◌, List, [], ◌∷◌, ◌++◌, length, get_or, take, drop, decimal, Ok, Err, Result, MatchResult, ◌⊎◌, inl, inr, subst, sym, refl, ap, ◌∙◌, append_assoc, append-nil, arith}
+use Rattle.std.proofs.Common.{◌≡◌, ℕ, zero, suc, ◌+◌, ◌*◌, ◌/◌, ◌%◌, ◌^◌, ◌<◌, ◌≤◌, List, [], ◌∷◌, ◌++◌, length, get_or, take, drop, decimal, Ok, Err, Result, MatchResult, ◌⊎◌, inl, inr, subst, sym, refl, ap, ◌∙◌, append_assoc, append-nil, arith}
 use Rattle.std.proofs.lemmas.Fmt.{decimal_digit, decimal_step, length-decimal-le}
 use Rattle.std.proofs.lemmas.List.{length-append, length_push, take_more, length-take-le, drop-drop, length-drop}
 use Rattle.std.specs.Result.{IsErr}
@@ -85,6 +85,14 @@ pub written_up_to : (ns : List ℕ) (i : ℕ) → i < length ns → (ls : List �
 written_up_to ns i h ls lead =
     let all = ap length (written_take ns i h ls lead) in
     omega (arith, all, written_front ns (i + 1), length-append (written (take i ns)) (ls ++ decimal (get_or ns i 0)), length-append ls (decimal (get_or ns i 0)))
+
+more_few : (ns : List ℕ) → ((i : ℕ) → get_or ns i 0 < 2 ^ 64) → length (more ns) ≤ 21 * length ns
+more_few [] h = omega arith
+more_few (n ∷ ns) h = omega (arith, more_few ns (λ i. h (suc i)), length_20 n (h 0), length-append (decimal n) (more ns))
+
+-- a line of at most 16 numbers fits in 337 bytes
+pub line_few : (ns : List ℕ) → ((i : ℕ) → get_or ns i 0 < 2 ^ 64) → length ns ≤ 16 → length (line ns) ≤ 337
+line_few ns h few = omega (arith, more_few ns h, line_long ns)
 
 -- a byte that there is room for is added
 pub added_one : (a b : Filled ℕ) (x : ℕ) (r : Result ℕ Refusal) → length (items_of a) < length (room_of a) → Added a b x r → Extended a b (x ∷ [])

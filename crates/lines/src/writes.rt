@@ -4,8 +4,12 @@ ghost use Rattle.lists.specs.Items.{items_of, room_of, Extended};
 ghost use Rattle.lines.specs.Format.{written, line};
 ghost use Rattle.lines.specs.Pages.{Put, Laid};
 
+use crate::numbers::MOST;
 use lists::Filled;
 use orders::Refusal;
+
+// How many bytes the longest line has: at most 20 digits and one byte behind them for each number, and the line's end.
+const LONGEST: usize = MOST * 21 + 1;
 
 // How many digits the number has.
 fn digit_len(n: u64) -> usize
@@ -81,7 +85,8 @@ pub fn add_line(page: &mut Filled<u8>, values: &[u64]) -> Result<(), Refusal>
     ensures answer { Laid page.old page.new (line values.now) result }
     ensures lender { page.new.room.ghost_name ≡ page.old.room.ghost_name }
 {
-    if page.left() < line_len(values) {
+    // Where there is room for any line, its length need not be counted.
+    if page.left() < LONGEST && page.left() < line_len(values) {
         return Err(Refusal::ShortPage);
     }
     write_line(page, values);
