@@ -8,7 +8,7 @@ use crate::numbers::MOST;
 use lists::Filled;
 use orders::Refusal;
 
-// How many bytes the longest line has: at most 20 digits and one byte behind them for each number, and the line's end.
+// No line has more bytes: at most 21 for each number, and one more (the bound of `line_len`).
 const LONGEST: usize = MOST * 21 + 1;
 
 // How many digits the number has.

@@ -82,7 +82,7 @@ pub fn check(
 {
     lines.clear();
     let top = read_top(text, chain)?;
-    // A literal: made by a function, the reader's list at the end is not tied to the caller's.
+    // A literal: made by a function that says nothing of the lender, the reader's list at the end is not tied to the caller's.
     let mut reader = Reader {
         pieces,
         table: Table::new(),
