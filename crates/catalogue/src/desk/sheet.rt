@@ -28,8 +28,8 @@ fn written<G: Chain, C: Cache>(
     write(store, handle, page)
 }
 
-// The sheet of a set.
-pub fn sheet<G: Chain, C: Cache>(
+// The sheet of a named set, by way of a page.
+fn on_page<G: Chain, C: Cache>(
     heap: Global,
     store: &Store<G, C>,
     name: Name,
@@ -41,4 +41,18 @@ pub fn sheet<G: Chain, C: Cache>(
         Ok(end) => Ok(Ok(page[..end].to_vec(heap)?)),
         Err(refusal) => Ok(Err(refusal)),
     }
+}
+
+// The sheet of a set. The name is asked first, so that no page is made for one that the store declines.
+pub fn sheet<G: Chain, C: Cache>(
+    heap: Global,
+    store: &Store<G, C>,
+    name: Name,
+) -> Result<Result<Vec<u8>, Refusal>, AllocError>
+    ensures { IfOk result (λ b. bytes_of b ≡ sheet_on (handle_asked (view store.now) (handle_named name)) (sheet_text G.CODE (view store.now).nodes name.number) page) }
+{
+    if let Err(refusal) = name.known(store) {
+        return Ok(Err(refusal));
+    }
+    on_page(heap, store, name)
 }

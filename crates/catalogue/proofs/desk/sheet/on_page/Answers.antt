@@ -8,7 +8,7 @@ use Rattle.catalogue.specs.declared.request.Name.{Name}
 use Rattle.catalogue.specs.Calls.{sheet_on}
 use Rattle.catalogue.specs.Requests.{handle_named, page}
 use Rattle.catalogue.proofs.Makes.{sheet_fits, sheet_short}
-use Rattle.catalogue.proofs.desk.sheet.sheet.Goals as goal
+use Rattle.catalogue.proofs.desk.sheet.on_page.Goals as goal
 
 -- the page as it is at first
 abbrev blank : List ℕ
